@@ -1,0 +1,5 @@
+pub mod BadLines
+pub mod Documents
+pub mod Index
+pub mod NodeLines
+pub mod Kept

@@ -1,0 +1,4 @@
+pub mod Appended
+pub mod Decimals
+pub mod LineLemmas
+pub mod NameLemmas

@@ -1,0 +1,67 @@
+ghost use Rattle.std.specs.Prelude.{◌≡◌, ◌<◌, ◌≤◌, ◌+◌, List, ℕ, Option, length, IfOk, IfSome, IsErrOf};
+ghost use Rattle.rf_io.specs.Causes.{Rose};
+ghost use Rattle.rf_io.specs.Folder.{SameHeld, NoneFell};
+ghost use Rattle.rf_io.specs.declared.read.ReadError.TheVariants.{Memory};
+
+use crate::Folder;
+use std::alloc::{AllocError, Global};
+
+/// Why a file wasn't read.
+#[derive(Clone, Copy, Debug, PartialEq, Eq)]
+pub enum ReadError {
+    /// The file has more bytes than the limit.
+    TooLong,
+    /// A read of the file failed.
+    Fault,
+    /// Memory ran out.
+    Memory,
+}
+
+impl From<AllocError> for ReadError {
+    ghost from_gives = { λ _ e. e ≡ Memory };
+
+    fn from(_: AllocError) -> ReadError {
+        ReadError::Memory
+    }
+}
+
+// How many bytes a read has room for.
+const PIECE: usize = 262144;
+
+fn make_buffer(alloc: Global, len: usize) -> Result<Vec<u8>, AllocError>
+    ensures { IfOk result (λ buffer. length buffer.items ≡ len) }
+{
+    vec![in alloc; 0u8; len]
+}
+
+/// All the bytes of a file, which are at most `limit`. Nothing is read past the first piece that goes
+/// beyond the limit.
+pub fn read_file<F: Folder>(
+    alloc: Global,
+    folder: &mut F,
+    name: &str,
+    limit: usize,
+) -> Result<Vec<u8>, ReadError>
+    ensures whole { IfOk result (λ bytes. IfSome (F.held folder.old name.now) (λ file. bytes.items ≡ file)) }
+    ensures short { IfOk result (λ bytes. length bytes.items ≤ limit) }
+    ensures too_long { IsErrOf result ReadError.TooLong → IfSome (F.held folder.old name.now) (λ file. limit < length file) }
+    ensures fault { IsErrOf result ReadError.Fault → Rose (F.faults folder.old name.now) (F.faults folder.new name.now) }
+    ensures same { SameHeld (F.held folder.old) (F.held folder.new) }
+    ensures later { NoneFell (F.faults folder.old) (F.faults folder.new) }
+{
+    let mut bytes = Vec::new(alloc);
+    let mut buffer = make_buffer(alloc, PIECE)?;
+    let piece = buffer.as_mut_slice();
+    loop {
+        let Ok(count) = folder.read_at(name, bytes.len() as u64, piece) else {
+            return Err(ReadError::Fault);
+        };
+        if count == 0 {
+            return Ok(bytes);
+        }
+        if count > limit - bytes.len() {
+            return Err(ReadError::TooLong);
+        }
+        bytes.extend_from_slice(&piece[..count])?;
+    }
+}

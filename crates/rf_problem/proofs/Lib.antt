@@ -1,0 +1,4 @@
+pub mod ClassLemmas
+pub mod ObjectLemmas
+pub mod TextLemmas
+pub mod Places

@@ -1,0 +1,13 @@
+use Rattle.std.proofs.Common.{◌≡◌, ◌++◌, length}
+use Rattle.rf_problem.specs.Text.{class_lines}
+use Rattle.rf_problem.specs.Valid.{AreClasses}
+use Rattle.rf_problem.proofs.read.read_classes.Given as goal
+
+abbrev pub invariant-loop-rest : goal.invariant-loop-rest
+invariant-loop-rest l = record {
+  declared : AreClasses l.classes.items;
+  joined : l.bytes ≡ class_lines l.classes.items ++ l.rest;
+}
+
+abbrev pub decreases-loop-rest : goal.decreases-loop-rest
+decreases-loop-rest l = length l.rest

@@ -1,0 +1,3 @@
+pub mod ClassLine
+pub mod Text
+pub mod Valid

@@ -1,0 +1,7 @@
+use rf_io::Text;
+
+/// A class. Its number is its place in the problem's list of classes, from 0.
+#[derive(Clone, Debug, Drop)]
+pub struct Class {
+    pub name: Text,
+}

@@ -1,0 +1,11 @@
+//! Tests of runs as a whole, over a folder and sinks in memory.
+#![tactic(auto)]
+
+#[cfg(test)]
+mod faults;
+#[cfg(test)]
+mod input;
+#[cfg(test)]
+mod rows;
+#[cfg(test)]
+mod setting;
