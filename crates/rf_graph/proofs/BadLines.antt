@@ -1,11 +1,11 @@
 -- The first bad line is one.
-use Rattle.std.proofs.Common.{◌≡◌, ◌<◌, ◌≤◌, ◌-◌, ◌+◌, ◌⊎◌, ◌∙◌, inl, inr, IfOk, Result, Ok, Err, ℕ, List, ◌++◌, length, take, drop, refl, sym, ap, arith, append_assoc, length-take}
+use Rattle.std.proofs.Common.{◌≡◌, ◌<◌, ◌≤◌, ◌-◌, ◌⊎◌, ◌∙◌, inl, inr, IfOk, Result, Ok, Err, ℕ, List, ◌++◌, length, take, drop, refl, sym, ap, arith, append_assoc, length-take}
 use Rattle.std.proofs.lemmas.List.{take-append-drop}
 use Rattle.rf_io.specs.Line.{joined_lines}
 use Rattle.rf_io.proofs.LineLemmas.{joined_lines-append}
 use Rattle.rf_problem.specs.declared.problem.Problem.{Problem}
 use Rattle.rf_graph.specs.BadLine.{Begins, IsBadLine}
-use Rattle.rf_graph.specs.Document.{IsDocument, graph_lines}
+use Rattle.rf_graph.specs.Document.{IsDocument}
 use Rattle.rf_graph.specs.declared.graph.Graph.{Graph}
 use Rattle.rf_graph.specs.declared.read.GraphError.{GraphError}
 use Rattle.rf_graph.specs.declared.read.GraphError.TheVariants.{BadLine, Memory}

@@ -1,12 +1,9 @@
 -- The first object that isn't kept, where each object is the new object of a class.
-use Rattle.std.proofs.Common.{◌≡◌, ◌≢◌, ◌∙◌, ℕ, ◌+◌, ◌<◌, ◌≤◌, min, List, [], ◌∷◌, ◌++◌, length, take, get_or, Option, MatchOption, Some, None, IfSome, refl, sym, ap, subst, arith, All, ◌⊎◌, inl, inr}
+use Rattle.std.proofs.Common.{◌≡◌, ◌∙◌, ℕ, ◌+◌, ◌<◌, ◌≤◌, min, List, [], ◌∷◌, ◌++◌, length, take, get_or, Option, MatchOption, Some, None, refl, ap, subst, arith, All, inl, inr}
 use Rattle.std.proofs.lemmas.Bool.{cases_lt, cases_order}
 use Rattle.std.proofs.lemmas.List.Elements.{All-nil, All-cons, All-head, All-tail, All-push}
 use Rattle.std.proofs.lemmas.List.{take_more, take_all}
-use Rattle.std.specs.List.{slice_get}
 use Rattle.rf_problem.specs.declared.problem.Problem.{Problem}
-use Rattle.rf_problem.specs.declared.object.ObjectName.TheVariants.{NewOf}
-use Rattle.rf_problem.specs.Valid.{new_object}
 use Rattle.rf_graph.specs.declared.graph.Graph.{Graph}
 use Rattle.rf_graph.specs.declared.graph.Node.{Node}
 use Rattle.rf_graph.specs.declared.verdict.Verdict.TheVariants.{Violated}

@@ -1,10 +1,9 @@
 -- The line of a node has one reading: its names are its own, and so are the numbers that they stand for.
-use Rattle.std.proofs.Common.{◌≡◌, ◌≢◌, ◌∙◌, ℕ, zero, suc, ◌+◌, ◌<◌, ◌≤◌, List, [], ◌∷◌, ◌++◌, length, get_or, refl, sym, ap, subst, arith, rules, append_assoc, codes, All, ◌⊎◌, inl, inr, Some, None, Option, IfNone, IfSome, MatchOption}
+use Rattle.std.proofs.Common.{◌≡◌, ◌≢◌, ◌∙◌, ℕ, suc, ◌<◌, List, [], ◌∷◌, ◌++◌, length, get_or, refl, sym, ap, subst, arith, rules, append_assoc, codes, inl, inr, Some, None, Option, IfNone, IfSome, MatchOption}
 use Rattle.std.proofs.lemmas.List.{append_cancel_right}
 use Rattle.std.proofs.lemmas.List.Elements.{All-from_recursion, All-append, All-cons, All-same}
 use Rattle.std.proofs.lemmas.Option.{slice_get_cases, slice_get-get_or}
 use Rattle.std.proofs.lemmas.Bool.{cases_lt}
-use Rattle.std.specs.List.{slice_get, AllByRecursion}
 use Rattle.rf_io.specs.Line.{NoBreak}
 use Rattle.rf_io.specs.Name.{IsName}
 use Rattle.rf_io.proofs.NameLemmas.{IsName-without, NoBreak-name}

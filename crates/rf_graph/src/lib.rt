@@ -8,6 +8,8 @@ mod object;
 mod print;
 mod read;
 mod satisfy;
+#[cfg(test)]
+mod tests;
 mod verdict;
 
 pub use graph::{Graph, Node};

@@ -1,5 +1,5 @@
 -- Bytes taken piece by piece are the front of the whole.
-use Rattle.std.proofs.Common.{◌≡◌, ◌∙◌, ℕ, ◌+◌, List, ◌++◌, Option, Some, None, IfSome, length, take, drop, ap, sym, refl, append_assoc}
+use Rattle.std.proofs.Common.{◌≡◌, ◌∙◌, ℕ, ◌+◌, List, ◌++◌, Option, Some, None, IfSome, take, drop, refl, append_assoc}
 use Rattle.std.proofs.Math.Seq.{take-add}
 use Rattle.rf_io.specs.Folder.{ReadsAt}
 use Rattle.rf_io.specs.Sink.{Appends}

@@ -1,6 +1,6 @@
 -- The first byte of a decimal spelling, and what `parse` makes of a text that begins so.
-use Rattle.std.proofs.Common.{◌≡◌, ◌≢◌, ℕ, zero, suc, ◌+◌, ◌<◌, ◌≤◌, ◌^◌, List, length, get_or, refl, sym, ◌∙◌, ap, subst, arith, Ok, ◌⊎◌, inl, inr, ◌∷◌, [], Result, rules, OkIff}
-use Rattle.std.proofs.lemmas.Fmt.{decimal_digit, first_decimal, decimal_nonempty, IsAscii-decimal, decimal-digits_value, parse-decimal}
+use Rattle.std.proofs.Common.{◌≡◌, ℕ, zero, suc, ◌<◌, ◌^◌, List, length, get_or, refl, sym, ◌∙◌, ap, arith, Ok, Result, OkIff}
+use Rattle.std.proofs.lemmas.Fmt.{decimal_digit, first_decimal, decimal_nonempty, IsAscii-decimal, decimal-digits_value}
 use Rattle.std.proofs.lemmas.Str.{IsUtf8-from_ascii}
 use Rattle.std.proofs.lemmas.Str.Parse.{numerals_by_value, tells_digits, parse_plain}
 use Rattle.std.specs.Fmt.{decimal}

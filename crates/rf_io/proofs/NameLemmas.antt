@@ -1,5 +1,5 @@
 -- What a name can't have in it.
-use Rattle.std.proofs.Common.{◌≡◌, ◌≢◌, ℕ, ◌<◌, Bool, true, false, IsTrue, List, length, get_or, sym, ◌∙◌, ap, All, refl}
+use Rattle.std.proofs.Common.{◌≡◌, ◌≢◌, ℕ, true, false, List, get_or, ap, All, refl}
 use Rattle.rf_io.specs.Line.{NoBreak}
 use Rattle.rf_io.specs.Name.{IsName, is_name_byte}
 

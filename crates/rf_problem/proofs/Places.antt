@@ -1,5 +1,5 @@
 -- The place from which on a text isn't read is one.
-use Rattle.std.proofs.Common.{◌≡◌, ◌∙◌, ◌<◌, ◌≤◌, ◌⊎◌, ℕ, List, [], ◌∷◌, ◌++◌, length, refl, sym, ap, subst, inl, inr, arith, append_assoc, All, IfOk, Result, Ok, Err}
+use Rattle.std.proofs.Common.{◌≡◌, ◌∙◌, ◌≤◌, ◌⊎◌, ℕ, List, [], ◌∷◌, ◌++◌, length, refl, sym, ap, inl, inr, arith, append_assoc, All, IfOk, Result, Ok, Err}
 use Rattle.std.proofs.lemmas.List.{append-nil}
 use Rattle.std.proofs.lemmas.List.Elements.{All-head, All-tail}
 use Rattle.rf_io.specs.Name.{IsName}
@@ -44,7 +44,7 @@ no_longer bytes at refused ys [] s declared e lines = e ∙ append-nil refused.c
 no_longer bytes at refused ys (c ∷ cs) s declared e lines =
     let front : refused.classes ++ c ∷ cs ≡ (refused.classes ++ c ∷ []) ++ cs = sym (append_assoc refused.classes (c ∷ []) cs) in
     absurd (refused.stuck c (class_lines cs ++ s) (AreClasses-front (refused.classes ++ c ∷ []) cs (rw (e ∙ front) at declared))
-      (lines ∙ append_assoc (class_line c) (class_lines cs) s))
+    (lines ∙ append_assoc (class_line c) (class_lines cs) s))
 
 no_sooner : (bytes : List ℕ) (at other : ℕ) (one : IsNotYet bytes at) (two : IsNotYet bytes other) → length one.classes ≤ length two.classes → at ≡ other
 no_sooner bytes at other one two longer =
@@ -55,8 +55,9 @@ no_sooner bytes at other one two longer =
 pub one_place : (bytes : List ℕ) (at other : ℕ) → IsNotYet bytes at → IsNotYet bytes other → at ≡ other
 one_place bytes at other one two =
     elim (either (length one.classes) (length two.classes)) [
-      inl h ↦ no_sooner bytes at other one two h
-    | inr h ↦ sym (no_sooner bytes other at two one h) ]
+      | inl h ↦ no_sooner bytes at other one two h
+      | inr h ↦ sym (no_sooner bytes other at two one h)
+    ]
   where
     either : (m n : ℕ) → (m ≤ n) ⊎ (n ≤ m)
     either m n = grind arith

@@ -15,6 +15,12 @@ answers_told None g problem graph text sign accepted drawn judged = tt
 answers_told (Some a) None problem graph text sign accepted drawn judged = tt
 answers_told (Some a) (Some b) problem graph text sign accepted drawn judged =
     record {
-      problem = problem; graph = graph; verdict = judged.0; accepted = accepted; drawn = drawn; judged = judged.1;
-      spelled = judged.2; sign = judged.3;
+      problem = problem;
+      graph = graph;
+      verdict = judged.0;
+      accepted = accepted;
+      drawn = drawn;
+      judged = judged.1;
+      spelled = judged.2;
+      sign = judged.3;
     }

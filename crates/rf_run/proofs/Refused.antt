@@ -1,5 +1,5 @@
 -- The causes of refusals, from what was read to what is told.
-use Rattle.std.proofs.Common.{◌≡◌, ◌<◌, ◌≤◌, ◌⊎◌, ◌∙◌, ℕ, List, length, Option, Some, None, IfSome, Result, Ok, Err, inl, inr, sym, subst, arith}
+use Rattle.std.proofs.Common.{◌≡◌, ◌<◌, ◌≤◌, ◌⊎◌, ◌∙◌, ℕ, List, length, Option, Some, None, IfSome, Result, Ok, Err, inl, inr, subst, arith}
 use Rattle.rf_problem.specs.Text.{IsNotYet}
 use Rattle.rf_problem.specs.declared.problem.Problem.{Problem}
 use Rattle.rf_problem.specs.declared.read.ProblemError.{ProblemError}
@@ -7,7 +7,6 @@ use Rattle.rf_problem.specs.declared.read.ProblemError.TheVariants.{NotYet as St
 use Rattle.rf_graph.specs.BadLine.{IsBadLine}
 use Rattle.rf_run.specs.Answer.{IsAccepted, problem_limit, graph_limit}
 use Rattle.rf_run.specs.Refuse.{RefusesProblem, RefusesFor}
-use Rattle.rf_run.specs.declared.answer.Stop.{Stop}
 use Rattle.rf_run.specs.declared.answer.Stop.TheVariants.{Refused}
 use Rattle.rf_run.specs.declared.refusal.Refusal.{Refusal}
 use Rattle.rf_run.specs.declared.refusal.Refusal.TheVariants.{ProblemTooLong, NotYet, GraphTooLong, BadLine}

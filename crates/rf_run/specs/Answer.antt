@@ -6,7 +6,6 @@ use Rattle.rf_graph.specs.Satisfy.{Sat, IsVerdict}
 use Rattle.rf_graph.specs.declared.graph.Graph.{Graph}
 use Rattle.rf_graph.specs.declared.verdict.Verdict.{Verdict}
 use Rattle.rf_graph.specs.declared.verdict.Verdict.TheVariants.{Satisfied, Violated}
-use Rattle.rf_graph.specs.declared.verdict.Violation.{Violation}
 use Rattle.rf_graph.specs.declared.verdict.Violation.TheVariants.{Object}
 
 -- the most bytes that a problem file and a graph file may have

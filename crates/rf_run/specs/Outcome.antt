@@ -1,4 +1,4 @@
-use Rattle.std.specs.Prelude.{◌≡◌, ◌<◌, ℕ, List, codes, Option, IfSome, ◌⊎◌, Bool, true, false}
+use Rattle.std.specs.Prelude.{◌≡◌, ℕ, List, codes, Option, IfSome, ◌⊎◌, Bool, true, false}
 use Rattle.rf_io.specs.Causes.{Rose}
 use Rattle.rf_io.specs.Sink.{Appends, AppendsFront}
 use Rattle.rf_problem.specs.declared.problem.Problem.{Problem}

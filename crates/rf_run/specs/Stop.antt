@@ -1,4 +1,3 @@
-use Rattle.std.specs.Prelude.{◌≡◌, ◌⊎◌}
 use Rattle.rf_run.specs.declared.answer.Stop.{Stop}
 use Rattle.rf_run.specs.declared.answer.Stop.TheVariants.{Usage, Refused, ReadFault, Memory}
 

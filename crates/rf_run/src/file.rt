@@ -16,14 +16,11 @@ use std::alloc::Global;
 
 // The most bytes that a problem file and a graph file may have.
 const PROBLEM_LIMIT: usize = 1048576;
+
 const GRAPH_LIMIT: usize = 67108864;
 
 /// The problem in a file, accepted or refused.
-pub fn open_problem<F: Folder>(
-    alloc: Global,
-    folder: &mut F,
-    name: &str,
-) -> Result<Problem, Stop>
+pub fn open_problem<F: Folder>(alloc: Global, folder: &mut F, name: &str) -> Result<Problem, Stop>
     ensures ok { IfOk result (λ p. IfSome (F.held folder.old name.now) (λ bytes. IsAccepted bytes p)) }
     ensures refused { IfErr result (λ stop. (r : _) → stop ≡ Stop.Refused r → (g : _) → RefusesTold (F.held folder.old name.now) g r) }
     ensures usage { IsErrOf result Stop.Usage → ⊥ }

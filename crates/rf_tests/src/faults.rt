@@ -1,41 +1,51 @@
-use crate::setting::{Setting, run_words};
+use crate::setting::{Outcome, Setting, check};
 use rf_run::Status;
+use std::alloc::{AllocError, Global};
 use std::test::Fail;
 
-const PROBLEM: &[u8] = b"class A.\n";
+// The first example, where these calls fail.
+fn failing(alloc: Global, step: u64, reads: &[u64], writes: &[u64]) -> Result<Outcome, AllocError> {
+    let setting = Setting {
+        step: step.max(1),
+        reads,
+        writes,
+        complaints: &[],
+    };
+    check(
+        alloc,
+        b"class A.\n",
+        b"graph 1\nnode A A::new\nend\n",
+        &setting,
+    )
+}
 
-const GRAPH: &[u8] = b"graph 1\nnode A A::new\nend\n";
+// How many reads a run of it makes at a step: a read of nothing ends each file.
+fn reads_at() -> [(u64, u64); 2] {
+    [(1000, 4), (1, 37)]
+}
 
 #[test]
 fn each_read_that_fails_is_a_read_fault(rt: HostRuntime) -> Result<(), Fail> {
     let alloc = rt.alloc();
-    // A read of nothing ends each file.
-    for (step, reads) in [(1000u64, 4u64), (1, 37)] {
-        for failing in 0..reads + 1 {
-            let setting = Setting {
-                step,
-                reads: &[failing],
-                writes: &[],
-                complaints: &[],
-            };
-            let outcome = run_words(alloc, &["check", "p", "g"], PROBLEM, GRAPH, &setting)?;
-            let (status, out, err) = if failing < reads {
-                (Status::ReadFault, "", "read fault\n")
-            } else {
-                (Status::Yes, "satisfied\n", "")
-            };
-            assert_eq!(rt; outcome.status, status, "read {failing} of {reads}");
-            assert_eq!(rt;
-                outcome.out.as_slice(),
-                out.as_bytes(),
-                "read {failing} of {reads}"
-            );
-            assert_eq!(rt;
-                outcome.err.as_slice(),
-                err.as_bytes(),
-                "read {failing} of {reads}"
+    for (step, reads) in reads_at() {
+        for read in 0..reads {
+            let outcome = failing(alloc, step, &[read], &[])?;
+            outcome.expect(
+                &rt,
+                Status::ReadFault,
+                "",
+                "read fault\n",
+                "a read that fails",
             );
         }
+        let outcome = failing(alloc, step, &[reads], &[])?;
+        outcome.expect(
+            &rt,
+            Status::Yes,
+            "satisfied\n",
+            "",
+            "a read behind the last",
+        );
     }
     Ok(())
 }
@@ -43,21 +53,9 @@ fn each_read_that_fails_is_a_read_fault(rt: HostRuntime) -> Result<(), Fail> {
 #[test]
 fn each_write_that_fails_leaves_a_front(rt: HostRuntime) -> Result<(), Fail> {
     let alloc = rt.alloc();
-    for (failing, out) in [(0u64, ""), (1, "sati"), (2, "satisfie")] {
-        let setting = Setting {
-            step: 4,
-            reads: &[],
-            writes: &[failing],
-            complaints: &[],
-        };
-        let outcome = run_words(alloc, &["check", "p", "g"], PROBLEM, GRAPH, &setting)?;
-        assert_eq!(rt; outcome.status, Status::WriteFault, "write {failing}");
-        assert_eq!(rt; outcome.out.as_slice(), out.as_bytes(), "write {failing}");
-        assert_eq!(rt;
-            outcome.err.as_slice(),
-            b"write fault\n".as_slice(),
-            "write {failing}"
-        );
+    for (write, out) in [(0u64, ""), (1, "sati"), (2, "satisfie")] {
+        let outcome = failing(alloc, 4, &[], &[write])?;
+        outcome.expect(&rt, Status::WriteFault, out, "write fault\n", out);
     }
     Ok(())
 }
@@ -65,30 +63,15 @@ fn each_write_that_fails_leaves_a_front(rt: HostRuntime) -> Result<(), Fail> {
 #[test]
 fn a_complaint_that_fails_keeps_the_status(rt: HostRuntime) -> Result<(), Fail> {
     let alloc = rt.alloc();
-    for (failing, err) in [
-        (0u64, ""),
-        (1, "graph"),
-        (2, "graph: bad"),
-        (3, "graph: bad line"),
-    ] {
+    for (complaint, err) in [(0u64, ""), (1, "graph"), (3, "graph: bad line")] {
         let setting = Setting {
             step: 5,
             reads: &[],
             writes: &[],
-            complaints: &[failing],
+            complaints: &[complaint],
         };
-        let outcome = run_words(alloc, &["check", "p", "g"], PROBLEM, b"graph 1\n", &setting)?;
-        assert_eq!(rt; outcome.status, Status::Refused, "complaint {failing}");
-        assert_eq!(rt;
-            outcome.out.as_slice(),
-            b"".as_slice(),
-            "complaint {failing}"
-        );
-        assert_eq!(rt;
-            outcome.err.as_slice(),
-            err.as_bytes(),
-            "complaint {failing}"
-        );
+        let outcome = check(alloc, b"class A.\n", b"graph 1\n", &setting)?;
+        outcome.expect(&rt, Status::Refused, "", err, err);
     }
     Ok(())
 }

@@ -3,6 +3,7 @@ ghost use Rattle.std.specs.Prelude.{◌≤◌};
 use rf_io::{MemFolder, MemSink, Text};
 use rf_run::{Status, run};
 use std::alloc::{AllocError, Global};
+use std::process::Abort;
 
 /// How a run goes: how many bytes a read or a write moves at the most, and which calls fail, by their
 /// numbers from 0.
@@ -18,9 +19,9 @@ pub struct Setting<'a> {
 /// What a run left.
 #[derive(Debug, Drop)]
 pub struct Outcome {
-    pub status: Status,
-    pub out: Vec<u8>,
-    pub err: Vec<u8>,
+    status: Status,
+    out: Vec<u8>,
+    err: Vec<u8>,
 }
 
 /// A run of these words where `p` and `g` hold these bytes.
@@ -49,15 +50,33 @@ pub fn run_words(
     })
 }
 
-/// `check p g`, where no call fails.
-pub fn check(alloc: Global, problem: &[u8], graph: &[u8], step: u64) -> Result<Outcome, AllocError>
+/// `check p g`.
+pub fn check(
+    alloc: Global,
+    problem: &[u8],
+    graph: &[u8],
+    setting: &Setting<'_>,
+) -> Result<Outcome, AllocError> {
+    run_words(alloc, &["check", "p", "g"], problem, graph, setting)
+}
+
+/// A setting in which no call fails.
+pub fn smooth(step: u64) -> Setting<'static>
     requires { 1 ≤ step }
 {
-    let setting = Setting {
+    Setting {
         step,
         reads: &[],
         writes: &[],
         complaints: &[],
-    };
-    run_words(alloc, &["check", "p", "g"], problem, graph, &setting)
+    }
+}
+
+impl Outcome {
+    /// Stops the test where the run left anything else.
+    pub fn expect(&self, rt: &impl Abort, status: Status, out: &str, err: &str, case: &str) {
+        assert_eq!(rt; self.status, status, "{case}");
+        assert_eq!(rt; self.out.as_slice(), out.as_bytes(), "{case}");
+        assert_eq!(rt; self.err.as_slice(), err.as_bytes(), "{case}");
+    }
 }

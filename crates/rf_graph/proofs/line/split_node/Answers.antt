@@ -1,4 +1,3 @@
-use Rattle.std.proofs.Common.{◌≡◌, sym}
 use Rattle.rf_graph.proofs.NodeLines.{IfNone-from, IsNodeLine-parts, no_new, no_words}
 use Rattle.rf_graph.proofs.line.split_node.Goals as goal
 

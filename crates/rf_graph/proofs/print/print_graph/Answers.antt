@@ -1,4 +1,3 @@
-use Rattle.std.proofs.Common.{◌≡◌}
 use Rattle.rf_graph.proofs.Documents.{printed_all, printed_more}
 use Rattle.rf_graph.proofs.print.print_graph.Goals as goal
 

@@ -1,4 +1,4 @@
-use Rattle.std.proofs.Common.{◌≡◌, ◌∙◌, ◌++◌, sym, ap, get_or}
+use Rattle.std.proofs.Common.{◌∙◌, ◌++◌, sym, ap, get_or}
 use Rattle.rf_graph.proofs.NodeLines.{class_name-read}
 use Rattle.rf_graph.proofs.print.push_class.Goals as goal
 

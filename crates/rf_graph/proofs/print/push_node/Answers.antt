@@ -1,4 +1,3 @@
-use Rattle.std.proofs.Common.{◌≡◌}
 use Rattle.rf_graph.proofs.NodeLines.{node_line-pushed}
 use Rattle.rf_graph.proofs.print.push_node.Goals as goal
 

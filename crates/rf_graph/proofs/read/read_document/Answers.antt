@@ -1,9 +1,9 @@
-use Rattle.std.proofs.Common.{◌≡◌, ◌∙◌, ℕ, ◌+◌, refl, sym, ap, subst, arith, rules, length}
+use Rattle.std.proofs.Common.{◌≡◌, ℕ, ◌+◌, refl, subst, arith, length}
 use Rattle.std.proofs.lemmas.Grind.{common_steps}
 use Rattle.std.proofs.lemmas.List.Elements.{All-push, All-same}
 use Rattle.rf_graph.specs.declared.graph.Node.{Node}
 use Rattle.rf_graph.specs.BadLine.{IsBadLine}
-use Rattle.rf_graph.specs.Document.{IsDocument, node_line}
+use Rattle.rf_graph.specs.Document.{node_line}
 use Rattle.rf_graph.specs.Fits.{FitsNode}
 use Rattle.rf_graph.proofs.Documents.{IsBadLine-behind, IsBadLine-head, IsBadLine-next, IsDocument-ended, no_longer, no_next, one_document, one_more, stuck}
 use Rattle.rf_graph.proofs.read.read_document.Goals as goal

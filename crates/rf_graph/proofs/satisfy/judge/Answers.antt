@@ -1,4 +1,4 @@
-use Rattle.std.proofs.Common.{◌≡◌, ◌<◌, refl, ap, arith, length}
+use Rattle.std.proofs.Common.{◌<◌, refl, ap, arith, length}
 use Rattle.rf_graph.proofs.Kept.{IsFirstUnkept-least, Sat-none, least_whole, no_first, no_first_violation, one_first_violation, step_other, step_own}
 use Rattle.rf_graph.proofs.satisfy.judge.Goals as goal
 use Rattle.rf_graph.proofs.satisfy.judge.Goals.{then-not-has_own_class, else-not-has_own_class}

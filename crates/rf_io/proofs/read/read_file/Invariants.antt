@@ -1,4 +1,4 @@
-use Rattle.std.proofs.Common.{◌≡◌, ◌≤◌, ◌-◌, ◌+◌, ℕ, length, take, IfSome, vec_len}
+use Rattle.std.proofs.Common.{◌≡◌, ◌≤◌, ◌-◌, ◌+◌, take, IfSome, vec_len}
 use Rattle.rf_io.specs.Folder.{SameHeld, NoneFell}
 use Rattle.rf_io.proofs.read.read_file.Given as goal
 

@@ -1,4 +1,4 @@
-use Rattle.std.proofs.Common.{rules, length, drop, arith}
+use Rattle.std.proofs.Common.{arith}
 use Rattle.std.proofs.lemmas.Grind.{common_steps}
 use Rattle.std.proofs.lemmas.List.{take_rest}
 use Rattle.rf_io.proofs.Appended.{appends_more}

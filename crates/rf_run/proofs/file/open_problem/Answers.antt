@@ -1,7 +1,5 @@
-use Rattle.std.proofs.Common.{◌≡◌, ◌∙◌, ◌≤◌, length, inl, subst}
-use Rattle.rf_problem.specs.Text.{IsNotYet}
+use Rattle.std.proofs.Common.{◌≡◌, ◌∙◌, inl}
 use Rattle.rf_run.proofs.Refused.{told_bytes, read_unrefused, stopped_refused}
-use Rattle.rf_run.specs.Answer.{problem_limit}
 use Rattle.rf_run.proofs.file.open_problem.Goals as goal
 
 pub returns-in-Ok-read_problem-clause-refuses : goal.returns-in-Ok-read_problem-clause-refuses

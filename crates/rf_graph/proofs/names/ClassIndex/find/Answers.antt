@@ -1,4 +1,4 @@
-use Rattle.std.proofs.Common.{◌≡◌, ◌∙◌}
+use Rattle.std.proofs.Common.{◌∙◌}
 use Rattle.rf_graph.proofs.Index.{found_called, not_called}
 use Rattle.rf_graph.proofs.names.ClassIndex.find.Goals as goal
 

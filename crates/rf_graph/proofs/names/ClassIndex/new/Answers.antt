@@ -1,4 +1,4 @@
-use Rattle.std.proofs.Common.{◌≡◌, ◌∙◌, ◌<◌, ℕ, Some, refl, sym, ap, arith, subst, length, get_or}
+use Rattle.std.proofs.Common.{◌∙◌, ◌<◌, ℕ, Some, sym, ap, arith, subst, length, get_or}
 use Rattle.std.proofs.lemmas.Map.Text.{btree_map_updates_str}
 use Rattle.rf_graph.specs.Names.{IsIndex}
 use Rattle.rf_graph.proofs.Index.{none_yet, one_more}

@@ -1,0 +1,2 @@
+pub mod MarkingLemmas
+pub mod PartialSearch

@@ -1,0 +1,12 @@
+//! Which places can be reached over the edges between numbered places, where only some places may
+//! be passed through.
+#![tactic(auto)]
+
+mod laws;
+mod search;
+
+pub use laws::{join_law, monotone_law, no_repeats_law, reverse_law, split_law};
+pub use search::{Edges, reach};
+
+#[cfg(test)]
+mod tests;

@@ -1,0 +1,5 @@
+pub mod Range
+pub mod Ends
+pub mod Lists
+pub mod Repeats
+pub mod Walks

@@ -1,0 +1,4 @@
+pub mod Lists
+pub mod Range
+pub mod Ends
+pub mod Walks
