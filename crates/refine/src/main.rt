@@ -1,8 +1,9 @@
 //! The program `refine`: it makes the real words, folder and sinks, and runs.
 #![tactic(auto)]
 
-use rf_io::{RealFolder, StreamSink, Text};
+use rf_io::{RealFolder, StreamSink};
 use rf_run::{Status, run};
+use rf_text::Text;
 use std::alloc::{AllocError, AllocFailed, Global};
 use std::process::ExitCode;
 use std::{env, io};

@@ -1,8 +1,8 @@
 -- The first bad line is one.
 use Rattle.std.proofs.Common.{◌≡◌, ◌<◌, ◌≤◌, ◌-◌, ◌⊎◌, ◌∙◌, inl, inr, IfOk, Result, Ok, Err, ℕ, List, ◌++◌, length, take, drop, refl, sym, ap, arith, append_assoc, length-take}
 use Rattle.std.proofs.lemmas.List.{take-append-drop}
-use Rattle.rf_io.specs.Line.{joined_lines}
-use Rattle.rf_io.proofs.LineLemmas.{joined_lines-append}
+use Rattle.rf_text.specs.Line.{joined_lines}
+use Rattle.rf_text.proofs.LineLemmas.{joined_lines-append}
 use Rattle.rf_problem.specs.declared.problem.Problem.{Problem}
 use Rattle.rf_graph.specs.BadLine.{Begins, IsBadLine}
 use Rattle.rf_graph.specs.Document.{IsDocument}

@@ -2,8 +2,8 @@
 use Rattle.std.proofs.Common.{◌≡◌, ◌≢◌, ◌∙◌, ℕ, suc, ◌+◌, ◌<◌, ◌≤◌, List, [], ◌∷◌, ◌++◌, length, map, take, get_or, refl, sym, ap, subst, arith, append_assoc, codes, All, ◌⊎◌, inl, inr, length-append}
 use Rattle.std.proofs.lemmas.List.{append-nil, length-map, map-append, take_all, take_more}
 use Rattle.std.proofs.lemmas.List.Elements.{All-nil, All-cons, All-head, All-tail, All-append, All-map, All-weaker, All-same}
-use Rattle.rf_io.specs.Line.{IsLine, NoBreak, joined_lines}
-use Rattle.rf_io.proofs.LineLemmas.{NoBreak-break, one_line, joined_lines-append}
+use Rattle.rf_text.specs.Line.{IsLine, NoBreak, joined_lines}
+use Rattle.rf_text.proofs.LineLemmas.{NoBreak-break, one_line, joined_lines-append}
 use Rattle.rf_problem.specs.declared.problem.Problem.{Problem}
 use Rattle.rf_graph.specs.declared.graph.Graph.{Graph}
 use Rattle.rf_graph.specs.declared.graph.Node.{Node}

@@ -4,9 +4,9 @@ use Rattle.std.proofs.lemmas.List.{append_cancel_right}
 use Rattle.std.proofs.lemmas.List.Elements.{All-from_recursion, All-append, All-cons, All-same}
 use Rattle.std.proofs.lemmas.Option.{slice_get_cases, slice_get-get_or}
 use Rattle.std.proofs.lemmas.Bool.{cases_lt}
-use Rattle.rf_io.specs.Line.{NoBreak}
-use Rattle.rf_io.specs.Name.{IsName}
-use Rattle.rf_io.proofs.NameLemmas.{IsName-without, NoBreak-name}
+use Rattle.rf_text.specs.Line.{NoBreak}
+use Rattle.rf_text.specs.Name.{IsName}
+use Rattle.rf_text.proofs.NameLemmas.{IsName-without, NoBreak-name}
 use Rattle.rf_problem.specs.declared.class.Class.{Class}
 use Rattle.rf_problem.specs.declared.problem.Problem.{Problem}
 use Rattle.rf_graph.specs.declared.graph.Node.{Node}

@@ -1,5 +1,5 @@
 use Rattle.std.specs.Prelude.{◌≡◌, ◌<◌, ◌-◌, ℕ, List, ◌++◌, length}
-use Rattle.rf_io.specs.Line.{joined_lines}
+use Rattle.rf_text.specs.Line.{joined_lines}
 use Rattle.rf_problem.specs.declared.problem.Problem.{Problem}
 use Rattle.rf_graph.specs.declared.graph.Graph.{Graph}
 use Rattle.rf_graph.specs.Document.{IsDocument, graph_lines}

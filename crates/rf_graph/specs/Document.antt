@@ -1,6 +1,6 @@
 use Rattle.std.specs.Prelude.{◌≡◌, ℕ, List, [], ◌∷◌, ◌++◌, codes, map, slice_get}
 use Rattle.std.specs.Option.{option_map_or}
-use Rattle.rf_io.specs.Line.{joined_lines}
+use Rattle.rf_text.specs.Line.{joined_lines}
 use Rattle.rf_problem.specs.declared.problem.Problem.{Problem}
 use Rattle.rf_problem.specs.declared.object.ObjectName.{ObjectName}
 use Rattle.rf_problem.specs.declared.object.ObjectName.TheVariants.{NewOf}

@@ -1,4 +1,4 @@
-use rf_io::Items;
+use rf_text::Items;
 
 /// A node of a graph. Its number is its place in the graph's list of nodes, from 0.
 #[derive(Clone, Copy, Debug, PartialEq, Eq)]

@@ -4,8 +4,8 @@ ghost use Rattle.rf_graph.specs.Fits.{Fits, FitsNode};
 
 use crate::object::class_of;
 use crate::{Graph, Node};
-use rf_io::{Text, push_name};
 use rf_problem::Problem;
+use rf_text::{Text, push_name};
 use std::alloc::{AllocError, Global};
 
 // Appends the name of a class.

@@ -6,8 +6,8 @@ ghost use Rattle.rf_graph.specs.declared.read.GraphError.TheVariants.{Memory};
 use crate::Graph;
 use crate::line::read_node;
 use crate::names::ClassIndex;
-use rf_io::{Items, first_line};
 use rf_problem::Problem;
+use rf_text::{Items, first_line};
 use std::alloc::{AllocError, AllocFailed, Global};
 use thiserror::Error;
 

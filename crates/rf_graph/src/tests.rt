@@ -1,8 +1,8 @@
 ghost use Rattle.std.specs.Prelude.{◌≡◌, length, IfOk};
 
 use crate::*;
-use rf_io::{Items, Text};
 use rf_problem::{Class, Count, ObjectDecl, ObjectName, Problem};
+use rf_text::{Items, Text};
 use std::alloc::{AllocError, Global};
 use std::test::Fail;
 

@@ -4,7 +4,8 @@ ghost use Rattle.rf_io.specs.Causes.{HasCause};
 ghost use Rattle.rf_io.specs.Folder.{ReadsAt, SameHeld, NoneFell};
 ghost use Rattle.rf_io.specs.Memory.{held_by, folder_after};
 
-use crate::{Failed, Folder, Text};
+use crate::{Failed, Folder};
+use rf_text::Text;
 use std::marker::Model;
 
 /// Files in memory, for tests: calls of given numbers fail, and a call gives a given number of bytes

@@ -8,10 +8,10 @@ use Rattle.std.proofs.lemmas.List.Elements.{All-append, All-from_recursion, All-
 use Rattle.std.proofs.lemmas.List.Quantifiers.{all_pairs_push}
 use Rattle.std.proofs.lemmas.Str.{IsUtf8-from_ascii}
 use Rattle.std.proofs.lemmas.Str.Ascii.{IsAscii-from_all}
-use Rattle.rf_io.specs.Line.{IsLine, NoBreak}
-use Rattle.rf_io.specs.Name.{IsName, is_name_byte}
-use Rattle.rf_io.proofs.LineLemmas.{NoBreak-break, line_of}
-use Rattle.rf_io.proofs.NameLemmas.{NoBreak-name}
+use Rattle.rf_text.specs.Line.{IsLine, NoBreak}
+use Rattle.rf_text.specs.Name.{IsName, is_name_byte}
+use Rattle.rf_text.proofs.LineLemmas.{NoBreak-break, line_of}
+use Rattle.rf_text.proofs.NameLemmas.{NoBreak-name}
 use Rattle.rf_problem.specs.ClassLine.{DeclaresNext, IsClassLine, IsStuck, class_of}
 use Rattle.rf_problem.specs.Text.{class_line}
 use Rattle.rf_problem.specs.Valid.{AreClasses}

@@ -2,8 +2,8 @@
 use Rattle.std.proofs.Common.{◌≡◌, ◌∙◌, ◌≤◌, ◌⊎◌, ℕ, List, [], ◌∷◌, ◌++◌, length, refl, sym, ap, inl, inr, arith, append_assoc, All, IfOk, Result, Ok, Err}
 use Rattle.std.proofs.lemmas.List.{append-nil}
 use Rattle.std.proofs.lemmas.List.Elements.{All-head, All-tail}
-use Rattle.rf_io.specs.Name.{IsName}
-use Rattle.rf_io.proofs.LineLemmas.{one_line}
+use Rattle.rf_text.specs.Name.{IsName}
+use Rattle.rf_text.proofs.LineLemmas.{one_line}
 use Rattle.rf_problem.specs.Text.{class_line, class_lines, IsNotYet, IsTextOf}
 use Rattle.rf_problem.specs.Valid.{AreClasses}
 use Rattle.rf_problem.specs.declared.class.Class.{Class}

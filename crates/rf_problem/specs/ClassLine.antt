@@ -1,5 +1,5 @@
 use Rattle.std.specs.Prelude.{◌≡◌, ℕ, List, [], ◌∷◌, ◌++◌, codes}
-use Rattle.rf_io.specs.Name.{IsName}
+use Rattle.rf_text.specs.Name.{IsName}
 use Rattle.rf_problem.specs.Text.{class_line}
 use Rattle.rf_problem.specs.Valid.{AreClasses}
 use Rattle.rf_problem.specs.declared.class.Class.{Class}

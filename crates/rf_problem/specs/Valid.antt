@@ -1,5 +1,5 @@
 use Rattle.std.specs.Prelude.{◌≡◌, ◌≢◌, ◌<◌, ◌≤◌, ℕ, List, None, Some, length, All, AllPairs, slice_get}
-use Rattle.rf_io.specs.Name.{IsName}
+use Rattle.rf_text.specs.Name.{IsName}
 use Rattle.rf_problem.specs.declared.class.Class.{Class}
 use Rattle.rf_problem.specs.declared.object.ObjectDecl.{ObjectDecl}
 use Rattle.rf_problem.specs.declared.object.ObjectName.TheVariants.{NewOf}

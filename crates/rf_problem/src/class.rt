@@ -1,4 +1,4 @@
-use rf_io::Text;
+use rf_text::Text;
 
 /// A class. Its number is its place in the problem's list of classes, from 0.
 #[derive(Clone, Debug, Drop)]

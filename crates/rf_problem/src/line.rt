@@ -3,7 +3,7 @@ ghost use Rattle.rf_problem.specs.ClassLine.{IsClassLine, DeclaresNext, IsStuck}
 ghost use Rattle.rf_problem.specs.Valid.{AreClasses};
 
 use crate::Class;
-use rf_io::{first_line, is_name};
+use rf_text::{first_line, is_name};
 
 const MOST_CLASSES: usize = 256;
 

@@ -6,7 +6,7 @@ ghost use Rattle.rf_problem.specs.declared.read.ProblemError.TheVariants.{Memory
 use crate::line::next_class;
 use crate::stock::new_objects;
 use crate::{Class, Problem};
-use rf_io::{Items, Text};
+use rf_text::{Items, Text};
 use std::alloc::{AllocError, AllocFailed, Global};
 use thiserror::Error;
 

@@ -12,8 +12,9 @@ use crate::Refusal;
 use crate::file::{open_graph, open_problem};
 use crate::words::command;
 use rf_graph::{Graph, Verdict, Violation, judge, push_object};
-use rf_io::{Folder, Text};
+use rf_io::Folder;
 use rf_problem::Problem;
+use rf_text::Text;
 use std::alloc::{AllocError, Global};
 
 /// Why there is no answer.

@@ -6,7 +6,8 @@ ghost use Rattle.rf_run.specs.Stop.{IsCutShort};
 
 use crate::answer::Stop;
 use crate::{Refusal, Status};
-use rf_io::{Sink, Text, push_number, write_all};
+use rf_io::{Sink, write_all};
+use rf_text::{Text, push_number};
 use std::alloc::{AllocError, Global};
 
 fn numbered(alloc: Global, words: &str, number: u64) -> Result<Text, AllocError>

@@ -9,7 +9,8 @@ ghost use Rattle.rf_run.specs.Words.{FileRose, files_of, problem_told, graph_tol
 use crate::Status;
 use crate::answer::answer;
 use crate::complain::{complain, say};
-use rf_io::{Folder, Sink, Text, write_all};
+use rf_io::{Folder, Sink, write_all};
+use rf_text::Text;
 use std::alloc::Global;
 
 /// Runs the program on the words behind its name: what it answers goes to `out`, why it has no answer

@@ -2,7 +2,7 @@ ghost use Rattle.std.specs.Prelude.{◌≡◌};
 ghost use Rattle.std.specs.Option.{option_map};
 ghost use Rattle.rf_run.specs.Words.{names_file, files_of};
 
-use rf_io::Text;
+use rf_text::Text;
 
 /// The files that the words of a command name.
 #[derive(Drop)]

@@ -1,7 +1,8 @@
 ghost use Rattle.std.specs.Prelude.{◌≤◌};
 
-use rf_io::{MemFolder, MemSink, Text};
+use rf_io::{MemFolder, MemSink};
 use rf_run::{Status, run};
+use rf_text::Text;
 use std::alloc::{AllocError, Global};
 use std::process::Abort;
 

@@ -1,5 +1,5 @@
 use Rattle.std.proofs.Common.{◌≡◌, take}
-use Rattle.rf_io.specs.Line.{joined_lines}
+use Rattle.rf_text.specs.Line.{joined_lines}
 use Rattle.rf_graph.proofs.Documents.{front_lines}
 use Rattle.rf_graph.proofs.print.print_graph.Given as goal
 

@@ -1,5 +1,5 @@
 use Rattle.std.proofs.Common.{◌≡◌, ◌++◌, ◌+◌, ◌≤◌, All, length}
-use Rattle.rf_io.specs.Line.{joined_lines}
+use Rattle.rf_text.specs.Line.{joined_lines}
 use Rattle.rf_graph.specs.Fits.{FitsNode}
 use Rattle.rf_graph.proofs.Documents.{front_lines}
 use Rattle.rf_graph.proofs.read.read_document.Given as goal

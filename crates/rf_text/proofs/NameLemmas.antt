@@ -1,7 +1,7 @@
 -- What a name can't have in it.
 use Rattle.std.proofs.Common.{◌≡◌, ◌≢◌, ℕ, true, false, List, get_or, ap, All, refl}
-use Rattle.rf_io.specs.Line.{NoBreak}
-use Rattle.rf_io.specs.Name.{IsName, is_name_byte}
+use Rattle.rf_text.specs.Line.{NoBreak}
+use Rattle.rf_text.specs.Name.{IsName, is_name_byte}
 
 -- a byte that no name has stands nowhere in a name
 pub IsName-without : (name : List ℕ) (b : ℕ) → IsName name → is_name_byte b ≡ false → All (λ x. x ≢ b) name

@@ -1,7 +1,7 @@
 ghost use Rattle.std.specs.Prelude.{◌≡◌, ◌++◌, ◌↔◌, IsTrue, OnOk, OnErr};
 ghost use Rattle.std.specs.List.{list_any};
 ghost use Rattle.std.specs.Str.{bytes_eq};
-ghost use Rattle.rf_io.specs.Name.{IsName, is_name_start, is_name_byte, is_reserved};
+ghost use Rattle.rf_text.specs.Name.{IsName, is_name_start, is_name_byte, is_reserved};
 
 use crate::Text;
 use std::alloc::{AllocError, Global};

@@ -1,7 +1,7 @@
 -- Where the first line of bytes ends is the bytes' own, so lines have one reading.
 use Rattle.std.proofs.Common.{◌≡◌, ◌∙◌, ℕ, suc, List, [], ◌∷◌, ◌++◌, length, refl, sym, ap, arith, append_assoc, length-append}
 use Rattle.std.proofs.Math.Seq.{get_or-append_seam}
-use Rattle.rf_io.specs.Line.{IsLine, NoBreak, joined_lines}
+use Rattle.rf_text.specs.Line.{IsLine, NoBreak, joined_lines}
 
 -- bytes with a line feed have one
 pub NoBreak-break : (a r : List ℕ) → NoBreak (a ++ 10 ∷ r) → ⊥

@@ -1,9 +1,9 @@
 use Rattle.std.proofs.Common.{◌∙◌, sym, refl}
 use Rattle.std.proofs.lemmas.Fmt.{parse-decimal}
 use Rattle.std.specs.Str.{IsUtf8}
-use Rattle.rf_io.specs.Number.{IsPlain}
-use Rattle.rf_io.proofs.Decimals.{IsPlain-decimal, IsUtf8-decimal, spelled}
-use Rattle.rf_io.proofs.number.read_number.Goals as goal
+use Rattle.rf_text.specs.Number.{IsPlain}
+use Rattle.rf_text.proofs.Decimals.{IsPlain-decimal, IsUtf8-decimal, spelled}
+use Rattle.rf_text.proofs.number.read_number.Goals as goal
 
 pub returns-then-not-is_plain-clause-found : goal.returns-then-not-is_plain-clause-found
 returns-then-not-is_plain-clause-found c n small e =

@@ -1,5 +1,5 @@
 ghost use Rattle.std.specs.Prelude.{IfSome, IfNone};
-ghost use Rattle.rf_io.specs.Line.{IsLine, NoBreak};
+ghost use Rattle.rf_text.specs.Line.{IsLine, NoBreak};
 
 /// The first line, without its line feed, and the bytes behind that line feed; None where no line
 /// feed stands in the bytes.
