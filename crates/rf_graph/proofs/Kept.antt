@@ -1,6 +1,6 @@
 -- The first object that isn't kept, where each object is the new object of a class.
-use Rattle.std.proofs.Common.{◌≡◌, ◌∙◌, ℕ, ◌+◌, ◌<◌, ◌≤◌, min, List, [], ◌∷◌, ◌++◌, length, take, get_or, Option, MatchOption, Some, None, refl, ap, subst, arith, All, inl, inr}
-use Rattle.std.proofs.lemmas.Bool.{cases_lt, cases_order}
+use Rattle.std.proofs.Common.{◌≡◌, ◌∙◌, ℕ, ◌+◌, ◌<◌, ◌≤◌, min, List, [], ◌∷◌, ◌++◌, length, take, get_or, Option, MatchOption, Some, None, refl, ap, subst, arith, All, inl, inr, true, leb, IsTrue}
+use Rattle.std.proofs.lemmas.Bool.{cases_lt, cases_order, le-leb}
 use Rattle.std.proofs.lemmas.List.Elements.{All-nil, All-cons, All-head, All-tail, All-push}
 use Rattle.std.proofs.lemmas.List.{take_more, take_all}
 use Rattle.rf_problem.specs.declared.problem.Problem.{Problem}
@@ -10,7 +10,8 @@ use Rattle.rf_graph.specs.declared.verdict.Verdict.TheVariants.{Violated}
 use Rattle.rf_graph.specs.declared.verdict.Violation.{Violation}
 use Rattle.rf_graph.specs.declared.verdict.Violation.TheVariants.{Object}
 use Rattle.rf_graph.specs.Fits.{Fits}
-use Rattle.rf_graph.specs.Satisfy.{IsKept, Sat, IsFirstUnkept, FirstViolation}
+use Rattle.rf_values.specs.Count.{contains}
+use Rattle.rf_graph.specs.Satisfy.{nodes_from, IsKept, Sat, IsFirstUnkept, FirstViolation}
 
 -- each node that comes from the object has its class
 abbrev pub AllOwn : ℕ → List Node → Type 0
@@ -90,11 +91,15 @@ least_whole many items nodes i now first same over is least =
     let whole : take i items ≡ nodes = take_all i items over ∙ same in
     rw (← is, ← whole) least
 
+-- any number is admitted
+any_number : (n : ℕ) → IsTrue (contains record { lo = 0; hi = None } n)
+any_number n = let free : leb 0 n ≡ true = le-leb 0 n (omega arith) in rw free refl
+
 -- any number of nodes may come from an object, so it is kept where they have its class
 kept : (p : Problem) (g : Graph) (o : ℕ) → o < length p.objects → AllOwn o g.nodes → IsKept p g o
 kept p g o within all =
     let class : o < length p.classes = omega (arith, p.stocked.same_length) in
-    record { count = rw (p.stocked.each o class) (omega arith, tt); classes = rw (p.stocked.each o class) all }
+    record { count = rw (p.stocked.each o class) (any_number (nodes_from g o)); classes = rw (p.stocked.each o class) all }
 
 own : (p : Problem) (g : Graph) (o : ℕ) → o < length p.objects → IsKept p g o → AllOwn o g.nodes
 own p g o within is =

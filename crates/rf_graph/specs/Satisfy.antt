@@ -1,5 +1,5 @@
-use Rattle.std.specs.Prelude.{◌≡◌, ◌==◌, ◌<◌, ◌≤◌, ℕ, length, count_by, All, IfSome, slice_get}
-use Rattle.rf_problem.specs.declared.count.Count.{Count}
+use Rattle.std.specs.Prelude.{◌≡◌, ◌==◌, ◌<◌, ℕ, length, count_by, All, IsTrue, IfSome, slice_get}
+use Rattle.rf_values.specs.Count.{contains}
 use Rattle.rf_problem.specs.declared.object.ObjectName.{ObjectName}
 use Rattle.rf_problem.specs.declared.object.ObjectName.TheVariants.{NewOf}
 use Rattle.rf_problem.specs.declared.problem.Problem.{Problem}
@@ -9,10 +9,6 @@ use Rattle.rf_graph.specs.declared.verdict.Verdict.TheVariants.{Satisfied, Viola
 use Rattle.rf_graph.specs.declared.verdict.Violation.{Violation}
 use Rattle.rf_graph.specs.declared.verdict.Violation.TheVariants.{Object}
 use Rattle.rf_graph.specs.Fits.{Fits}
-
--- so many nodes are admitted
-abbrev pub Admits : Count → ℕ → Type 0
-Admits count n = (count.lo ≤ n) × IfSome count.hi (λ hi. n ≤ hi)
 
 -- how many nodes come from an object
 abbrev pub nodes_from : Graph → ℕ → ℕ
@@ -24,7 +20,7 @@ MayHaveClass (NewOf c) class = class ≡ c
 
 -- the object has a number of nodes that it admits, and each of them has a class that it may have
 pub record IsKept (p : Problem) (g : Graph) (o : ℕ) : Type 0 where
-  pub count : IfSome (slice_get p.objects o) (λ object. Admits object.count (nodes_from g o))
+  pub count : IfSome (slice_get p.objects o) (λ object. IsTrue (contains object.count (nodes_from g o)))
   pub classes : IfSome (slice_get p.objects o) (λ object. All (λ n. n.origin ≡ o → MayHaveClass object.name n.class) g.nodes)
 
 -- the graph satisfies the problem: it fits it, and every object is kept

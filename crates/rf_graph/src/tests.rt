@@ -1,8 +1,9 @@
 ghost use Rattle.std.specs.Prelude.{◌≡◌, length, IfOk};
 
 use crate::*;
-use rf_problem::{Class, Count, ObjectDecl, ObjectName, Problem};
+use rf_problem::{Class, ObjectDecl, ObjectName, Problem};
 use rf_text::{Items, Text};
+use rf_values::Count;
 use std::alloc::{AllocError, Global};
 use std::test::Fail;
 

@@ -5,7 +5,6 @@
 #![tactic(auto)]
 
 mod class;
-mod count;
 mod line;
 mod object;
 mod problem;
@@ -13,7 +12,6 @@ mod read;
 mod stock;
 
 pub use class::Class;
-pub use count::Count;
 pub use object::{ObjectDecl, ObjectName};
 pub use problem::Problem;
 pub use read::{ProblemError, read_problem};

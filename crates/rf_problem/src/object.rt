@@ -1,4 +1,4 @@
-use crate::Count;
+use rf_values::Count;
 
 /// What an object is called.
 #[derive(Clone, Copy, Debug, PartialEq, Eq)]

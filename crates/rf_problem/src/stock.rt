@@ -1,7 +1,8 @@
 ghost use Rattle.std.specs.Prelude.{◌≡◌, IfOk};
 ghost use Rattle.rf_problem.specs.Valid.{AreNewObjects, new_object};
 
-use crate::{Count, ObjectDecl, ObjectName};
+use crate::{ObjectDecl, ObjectName};
+use rf_values::Count;
 use std::alloc::{AllocError, Global};
 
 fn new_object(class: u32) -> ObjectDecl

@@ -1,6 +1,7 @@
 //! Texts, and the answers that they are to get.
 
 use super::*;
+use rf_values::Count;
 use std::alloc::Global;
 use std::test::Fail;
 

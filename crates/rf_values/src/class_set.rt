@@ -1,0 +1,141 @@
+//! Sets of classes.
+
+ghost use Rattle.std.specs.Prelude.{◌≡◌, ◌↔◌, ◌<◌, ◌≤◌, false, IsTrue, nat_eq};
+ghost use Rattle.std.specs.Cmp.{on_per, on_equiv, partial_equiv_from_equiv};
+ghost use Rattle.std.specs.Cmp.Lexicographic.{pointwise, nat_list_eq_equiv};
+ghost use Rattle.std.specs.FinSet as set;
+ghost use Rattle.rf_values.specs.ClassSet.{SameMembersAreSameSet, EqualIsSameSet};
+
+use std::marker::Model;
+
+/// A set of class numbers below 256.
+#[derive(Clone, Copy, Debug)]
+pub struct ClassSet {
+    // The bit c % 64 of the word c / 64 is that of the class c.
+    words: [u64; 4],
+}
+
+impl Model for ClassSet {
+    ghost use Rattle.std.specs.FinSet as set;
+    ghost use Rattle.std.specs.Ordering.{nat_cmp};
+    ghost use Rattle.std.specs.Coded.{coded_ℕ};
+    ghost use Rattle.rf_values.specs.Words.{AreWords, marked, words_of};
+    ghost use Rattle.rf_values.specs.WordLemmas.{words_of-marked};
+
+    ghost Value = { set.FinSet nat_cmp };
+
+    ghost coded = { set.code coded_ℕ };
+
+    ghost view = { λ s. marked s.words };
+
+    ghost invariant = { λ s. AreWords s.words };
+
+    ghost inverse = { λ members. record { words = words_of members } };
+
+    ghost inverse_ok = { λ s h. λ i. record { words = words_of-marked s.words h i } };
+}
+
+impl PartialEq for ClassSet {
+    ghost eq = { λ a b. pointwise nat_eq (set.items a) (set.items b) };
+
+    ghost laws = { on_per set.items (partial_equiv_from_equiv nat_list_eq_equiv) };
+
+    fn eq(&self, other: &ClassSet) -> bool {
+        self.words == other.words
+    }
+}
+
+impl Eq for ClassSet {
+    ghost laws = { on_equiv set.items nat_list_eq_equiv };
+}
+
+impl ClassSet {
+    /// No class.
+    pub fn empty() -> ClassSet
+        ensures { result ≡ set.empty }
+    {
+        ClassSet { words: [0; 4] }
+    }
+
+    /// These and the class `c`.
+    pub fn adding(self, c: u32) -> ClassSet
+        requires { c < 256 }
+        ensures { result ≡ set.insert self c }
+    {
+        let mut words = self.words;
+        words[(c / 64) as usize] |= 1 << (c % 64);
+        ClassSet { words }
+    }
+
+    /// Whether the class `c` is among these.
+    pub fn has(self, c: u32) -> bool
+        ensures has { result ≡ set.contains self c }
+        ensures beyond { 256 ≤ c → result ≡ false }
+    {
+        c < 256 && self.words[(c / 64) as usize] >> (c % 64) & 1 == 1
+    }
+
+    /// The classes that are in both sets.
+    pub fn both(self, other: ClassSet) -> ClassSet
+        ensures { result ≡ set.intersection self other }
+    {
+        ClassSet {
+            words: [
+                self.words[0] & other.words[0],
+                self.words[1] & other.words[1],
+                self.words[2] & other.words[2],
+                self.words[3] & other.words[3],
+            ],
+        }
+    }
+
+    /// These but for those of the other set.
+    pub fn without(self, other: ClassSet) -> ClassSet
+        ensures { result ≡ set.difference self other }
+    {
+        ClassSet {
+            words: [
+                self.words[0] & !other.words[0],
+                self.words[1] & !other.words[1],
+                self.words[2] & !other.words[2],
+                self.words[3] & !other.words[3],
+            ],
+        }
+    }
+
+    /// Whether there is no class in the set.
+    pub fn is_empty(self) -> bool
+        ensures { IsTrue result ↔ (self ≡ set.empty) }
+    {
+        self.words == [0; 4]
+    }
+}
+
+/// A set is determined by which classes are in it, and `==` tells two sets apart.
+pub fn same_members_law()
+    ensures members { SameMembersAreSameSet }
+    ensures equal { EqualIsSameSet }
+{}
+
+#[cfg(test)]
+mod tests {
+    use super::*;
+
+    #[test]
+    fn keeps_the_classes_at_the_ends_of_words(rt: HostRuntime) {
+        let ends = ClassSet::empty()
+            .adding(0)
+            .adding(63)
+            .adding(64)
+            .adding(255);
+        assert!(rt; ends.has(0) && ends.has(63) && ends.has(64) && ends.has(255));
+        assert!(rt; !ends.has(1) && !ends.has(62) && !ends.has(65) && !ends.has(254));
+        assert!(rt; !ends.has(256) && !ends.has(u32::MAX));
+        let low = ClassSet::empty().adding(0).adding(63);
+        let high = ends.without(low);
+        assert!(rt; !high.has(0) && !high.has(63) && high.has(64) && high.has(255));
+        assert!(rt; ends.both(low).has(63) && !ends.both(low).has(64));
+        assert!(rt; high.both(low).is_empty() && !high.is_empty());
+        assert!(rt; high == ClassSet::empty().adding(255).adding(64) && high != ends);
+    }
+}

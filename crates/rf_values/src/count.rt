@@ -1,0 +1,83 @@
+//! How many nodes there may be.
+
+ghost use Rattle.std.specs.Prelude.{◌≡◌};
+ghost use Rattle.rf_values.specs.Count.{lesser_end, meet, contains, is_single, less_one};
+ghost use Rattle.rf_values.specs.Count.{MeetContainsCommon, SingleIsOneToOne, LessOneContainsRest};
+
+/// How many nodes there may be: at least `lo` and, where there is an upper end, at most `hi`.
+#[derive(Clone, Copy, Debug, PartialEq, Eq)]
+pub struct Count {
+    pub lo: u64,
+    /// None is unbounded.
+    pub hi: Option<u64>,
+}
+
+fn lesser_end(a: Option<u64>, b: Option<u64>) -> Option<u64>
+    ensures { result ≡ lesser_end a b }
+{
+    match (a, b) {
+        (Some(x), Some(y)) => Some(x.min(y)),
+        (None, end) => end,
+        (end, None) => end,
+    }
+}
+
+impl Count {
+    /// The numbers that both allow. There may be none: then `lo` is above `hi`.
+    pub fn meet(self, other: Count) -> Count
+        ensures { result ≡ meet self other }
+    {
+        Count {
+            lo: self.lo.max(other.lo),
+            hi: lesser_end(self.hi, other.hi),
+        }
+    }
+
+    /// Whether there may be `n` nodes.
+    pub fn contains(self, n: u64) -> bool
+        ensures { result ≡ contains self n }
+    {
+        self.lo <= n && self.hi.is_none_or(|end| n <= end)
+    }
+
+    /// Whether there is exactly one node, come what may.
+    pub fn is_single(self) -> bool
+        ensures { result ≡ is_single self }
+    {
+        self.lo == 1 && self.hi == Some(1)
+    }
+
+    /// How many nodes there may still be once one is made: each finite end one less, and none below 0.
+    pub fn less_one(self) -> Count
+        ensures { result ≡ less_one self }
+    {
+        Count {
+            lo: self.lo.saturating_sub(1),
+            hi: self.hi.map(|end| end.saturating_sub(1)),
+        }
+    }
+}
+
+/// What the calls on counts mean for the numbers that a count contains.
+pub fn count_law()
+    ensures meet { MeetContainsCommon }
+    ensures single { SingleIsOneToOne }
+    ensures less_one { LessOneContainsRest }
+{}
+
+#[cfg(test)]
+mod tests {
+    use super::*;
+
+    fn count(lo: u64, hi: Option<u64>) -> Count {
+        Count { lo, hi }
+    }
+
+    #[test]
+    fn takes_one_off_the_ends(rt: HostRuntime) {
+        assert_eq!(rt; count(0, None).less_one(), count(0, None));
+        assert_eq!(rt; count(0, Some(0)).less_one(), count(0, Some(0)));
+        assert_eq!(rt; count(0, Some(1)).less_one(), count(0, Some(0)));
+        assert_eq!(rt; count(3, None).less_one(), count(2, None));
+    }
+}

@@ -1,0 +1,122 @@
+//! What is known of a fact.
+
+ghost use Rattle.std.specs.Prelude.{◌≡◌};
+ghost use Rattle.rf_values.specs.Truth.{merge, must, may, below};
+ghost use Rattle.rf_values.specs.Truth.{BelowIsReflexive, BelowIsAntisymmetric, BelowIsTransitive, UnknownIsLeast, ErrorIsGreatest};
+ghost use Rattle.rf_values.specs.Truth.{MergeIsLeastAbove, MergeIsAssociative, MergeIsCommutative, MergeIsIdempotent, UnknownIsNeutral, ErrorAbsorbs, MergeJoinsPairs};
+ghost use Rattle.rf_values.specs.Truth.{TruthIsItsPair, PairIsItsTruth};
+
+/// What is known of a fact. More may become known: then the truth goes up in the order that `below`
+/// tests, where `Unknown` is lowest and `Error`, that is true and false at once, is highest.
+#[derive(Clone, Copy, Debug, PartialEq, Eq)]
+pub enum Truth {
+    True,
+    False,
+    Unknown,
+    Error,
+}
+
+impl Truth {
+    /// What is known by both together: the least truth that neither exceeds.
+    pub fn merge(self, other: Truth) -> Truth
+        ensures { result ≡ merge self other }
+    {
+        if self.below(other) {
+            other
+        } else if other.below(self) {
+            self
+        } else {
+            Truth::Error
+        }
+    }
+
+    /// Whether the fact has to hold.
+    pub fn must(self) -> bool
+        ensures { result ≡ must self }
+    {
+        matches!(self, Truth::True | Truth::Error)
+    }
+
+    /// Whether the fact can hold.
+    pub fn may(self) -> bool
+        ensures { result ≡ may self }
+    {
+        matches!(self, Truth::True | Truth::Unknown)
+    }
+
+    /// Whether `other` knows all that this does.
+    pub fn below(self, other: Truth) -> bool
+        ensures { result ≡ below self other }
+    {
+        self == other || self == Truth::Unknown || other == Truth::Error
+    }
+}
+
+/// The truths are ordered, from unknown up to error.
+pub fn order_law()
+    ensures reflexive { BelowIsReflexive }
+    ensures antisymmetric { BelowIsAntisymmetric }
+    ensures transitive { BelowIsTransitive }
+    ensures least { UnknownIsLeast }
+    ensures greatest { ErrorIsGreatest }
+{}
+
+/// Merging gives the least truth above both. So neither the order nor the number of times matters in
+/// which truths are merged.
+pub fn merge_law()
+    ensures least_above { MergeIsLeastAbove }
+    ensures associative { MergeIsAssociative }
+    ensures commutative { MergeIsCommutative }
+    ensures idempotent { MergeIsIdempotent }
+    ensures neutral { UnknownIsNeutral }
+    ensures absorbing { ErrorAbsorbs }
+    ensures pairs { MergeJoinsPairs }
+{}
+
+/// A truth is no more and no less than whether the fact has to hold and whether it can.
+pub fn pair_law()
+    ensures truth { TruthIsItsPair }
+    ensures pair { PairIsItsTruth }
+{}
+
+#[cfg(test)]
+mod tests {
+    use super::Truth::{Error, False, True, Unknown};
+    use super::*;
+
+    #[test]
+    fn merges_as_the_table_says(rt: HostRuntime) {
+        for (a, b, merged) in [
+            (True, True, True),
+            (True, False, Error),
+            (True, Unknown, True),
+            (True, Error, Error),
+            (False, True, Error),
+            (False, False, False),
+            (False, Unknown, False),
+            (False, Error, Error),
+            (Unknown, True, True),
+            (Unknown, False, False),
+            (Unknown, Unknown, Unknown),
+            (Unknown, Error, Error),
+            (Error, True, Error),
+            (Error, False, Error),
+            (Error, Unknown, Error),
+            (Error, Error, Error),
+        ] {
+            assert_eq!(rt; a.merge(b), merged);
+        }
+    }
+
+    #[test]
+    fn must_and_may_as_the_pairs_say(rt: HostRuntime) {
+        for (truth, must, may) in [
+            (True, true, true),
+            (False, false, false),
+            (Unknown, false, true),
+            (Error, true, false),
+        ] {
+            assert_eq!(rt; (truth.must(), truth.may()), (must, may));
+        }
+    }
+}

@@ -1,0 +1,83 @@
+//! The few numbers that a fact speaks of.
+
+ghost use Rattle.std.specs.Prelude.{◌≡◌, ◌≤◌, length, nat_eq};
+ghost use Rattle.std.specs.Cmp.{partial_equiv_from_equiv};
+ghost use Rattle.std.specs.Cmp.Lexicographic.{pointwise, nat_list_eq_equiv};
+
+use std::marker::Model;
+
+/// A list of at most four numbers, as the places that a fact speaks of.
+#[derive(Clone, Copy, Debug)]
+pub struct Tuple {
+    cells: [u64; 4],
+    used: usize,
+}
+
+impl Model for Tuple {
+    ghost use Rattle.std.specs.Prelude.{List, ℕ, length, take};
+    ghost use Rattle.std.proofs.Common.{sym};
+    ghost use Rattle.rf_values.specs.Tuple.{padded, IsPadded, length-take-padded};
+
+    ghost Value = { List ℕ };
+
+    ghost view = { λ t. take t.used t.cells };
+
+    ghost invariant = { λ t. IsPadded t.cells t.used };
+
+    ghost inverse = { λ xs. record { cells = padded 4 xs; used = length xs } };
+
+    ghost inverse_ok = { λ a h. λ i. record { cells = sym h.zeros i; used = length-take-padded a.cells a.used h i } };
+}
+
+impl PartialEq for Tuple {
+    ghost eq = { pointwise nat_eq };
+
+    ghost laws = { partial_equiv_from_equiv nat_list_eq_equiv };
+
+    fn eq(&self, other: &Tuple) -> bool {
+        self.as_slice() == other.as_slice()
+    }
+}
+
+impl Eq for Tuple {
+    ghost laws = { nat_list_eq_equiv };
+}
+
+impl Tuple {
+    /// The tuple of these numbers.
+    pub fn of(items: &[u64]) -> Tuple
+        requires { length items.now ≤ 4 }
+        ensures { result ≡ items.now }
+    {
+        let mut cells = [0; 4];
+        cells[..items.len()].copy_from_slice(items);
+        Tuple {
+            cells,
+            used: items.len(),
+        }
+    }
+
+    /// The numbers, in order.
+    pub fn as_slice(&self) -> &[u64]
+        ensures items { result.now ≡ self.now }
+        ensures short { length self.now ≤ 4 }
+    {
+        &self.cells[..self.used]
+    }
+}
+
+#[cfg(test)]
+mod tests {
+    use super::*;
+
+    #[test]
+    fn holds_as_many_as_it_is_given(rt: HostRuntime) {
+        assert_eq!(rt; Tuple::of(&[]).as_slice().len(), 0);
+        assert_eq!(rt;
+            Tuple::of(&[7, 0, 9, 0]).as_slice(),
+            [7, 0, 9, 0].as_slice()
+        );
+        assert!(rt; Tuple::of(&[7]) == Tuple::of(&[7]));
+        assert!(rt; Tuple::of(&[7]) != Tuple::of(&[7, 0]));
+    }
+}
