@@ -1,7 +1,7 @@
 //! The store: the current map, its kept versions, and what each call does to them.
 
 ghost use Rattle.std.specs.Prelude.{◌≡◌, ◌+◌, ◌*◌, ◌<◌, ◌≤◌, ◌++◌, ◌∷◌, [], ℕ, length, take, All, slice_get, IfSome, IfOk, OnOk, OnErr, MatchOption};
-ghost use Rattle.rf_store.specs.Entries.{value_at, with_entry};
+ghost use Rattle.rf_store.specs.Entries.{IsInOrder, value_at, with_entry};
 ghost use Rattle.rf_store.specs.Contents.{SetsOnly, IsBelow, IsLeastFrom, IsGreatestHeight};
 
 use crate::compare::{Key, Value};
@@ -60,9 +60,10 @@ impl Store {
 
     /// The entry with the least key that is not below the given one.
     pub fn after(&self, key: &Key) -> Option<(Key, Value)>
-        ensures { MatchOption result
+        ensures least { MatchOption result
             (All (λ e. IsBelow e.0 key.now) self.now.current)
             (IsLeastFrom self.now.current key.now) }
+        ensures in_order { IsInOrder self.now.current }
     {
         find_from(&self.table, self.root, key)
     }
