@@ -1,6 +1,6 @@
 //! Sets of classes.
 
-ghost use Rattle.std.specs.Prelude.{◌≡◌, ◌↔◌, ◌<◌, ◌≤◌, false, IsTrue, nat_eq};
+ghost use Rattle.std.specs.Prelude.{◌≡◌, ◌↔◌, ℕ, ◌<◌, ◌≤◌, ◌==◌, ◌&&◌, ◌||◌, not, false, IsTrue, nat_eq};
 ghost use Rattle.std.specs.Cmp.{on_per, on_equiv, partial_equiv_from_equiv};
 ghost use Rattle.std.specs.Cmp.Lexicographic.{pointwise, nat_list_eq_equiv};
 ghost use Rattle.std.specs.FinSet as set;
@@ -52,7 +52,8 @@ impl Eq for ClassSet {
 impl ClassSet {
     /// No class.
     pub fn empty() -> ClassSet
-        ensures { result ≡ set.empty }
+        ensures classes { result ≡ set.empty }
+        ensures members { (d : ℕ) → set.contains result d ≡ false }
     {
         ClassSet { words: [0; 4] }
     }
@@ -60,7 +61,8 @@ impl ClassSet {
     /// These and the class `c`.
     pub fn adding(self, c: u32) -> ClassSet
         requires { c < 256 }
-        ensures { result ≡ set.insert self c }
+        ensures classes { result ≡ set.insert self c }
+        ensures members { (d : ℕ) → set.contains result d ≡ (d == c || set.contains self d) }
     {
         let mut words = self.words;
         words[(c / 64) as usize] |= 1 << (c % 64);
@@ -77,7 +79,8 @@ impl ClassSet {
 
     /// The classes that are in both sets.
     pub fn both(self, other: ClassSet) -> ClassSet
-        ensures { result ≡ set.intersection self other }
+        ensures classes { result ≡ set.intersection self other }
+        ensures members { (d : ℕ) → set.contains result d ≡ (set.contains self d && set.contains other d) }
     {
         ClassSet {
             words: [
@@ -91,7 +94,8 @@ impl ClassSet {
 
     /// These but for those of the other set.
     pub fn without(self, other: ClassSet) -> ClassSet
-        ensures { result ≡ set.difference self other }
+        ensures classes { result ≡ set.difference self other }
+        ensures members { (d : ℕ) → set.contains result d ≡ (set.contains self d && not (set.contains other d)) }
     {
         ClassSet {
             words: [
@@ -105,7 +109,8 @@ impl ClassSet {
 
     /// Whether there is no class in the set.
     pub fn is_empty(self) -> bool
-        ensures { IsTrue result ↔ (self ≡ set.empty) }
+        ensures classes { IsTrue result ↔ (self ≡ set.empty) }
+        ensures members { IsTrue result ↔ ((d : ℕ) → set.contains self d ≡ false) }
     {
         self.words == [0; 4]
     }

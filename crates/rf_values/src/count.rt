@@ -47,7 +47,8 @@ impl Count {
         self.lo == 1 && self.hi == Some(1)
     }
 
-    /// How many nodes there may still be once one is made: each finite end one less, and none below 0.
+    /// How many nodes there may still be once one is made: each finite end one less, and none
+    /// below 0.
     pub fn less_one(self) -> Count
         ensures { result ≡ less_one self }
     {

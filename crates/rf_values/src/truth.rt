@@ -61,8 +61,8 @@ pub fn order_law()
     ensures greatest { ErrorIsGreatest }
 {}
 
-/// Merging gives the least truth above both. So neither the order nor the number of times matters in
-/// which truths are merged.
+/// Merging gives the least truth above both. So it doesn't matter in which order truths are merged,
+/// nor how often.
 pub fn merge_law()
     ensures least_above { MergeIsLeastAbove }
     ensures associative { MergeIsAssociative }
