@@ -1,0 +1,14 @@
+pub mod Fronts
+pub mod Spans
+pub mod Closings
+pub mod Encoded
+pub mod Gaps
+pub mod Heads
+pub mod Spellings
+pub mod Longest
+pub mod Sequences
+pub mod Causes
+pub mod Closes
+pub mod Takings
+pub mod Digits
+pub mod Marks

@@ -1,3 +1,6 @@
+ghost use Rattle.std.specs.Prelude.{◌≡◌, IfSome, IfNone};
+ghost use Rattle.rf_lexer.specs.Spelling.{keyword_spelling};
+
 /// A word that the language keeps for itself.
 #[derive(Clone, Copy, Debug, PartialEq, Eq)]
 pub enum Keyword {
@@ -19,4 +22,66 @@ pub enum Keyword {
     Scope,
     True,
     Unknown,
+}
+
+const KEYWORDS: [Keyword; 18] = [
+    Keyword::Abstract,
+    Keyword::Atom,
+    Keyword::Class,
+    Keyword::Container,
+    Keyword::Contains,
+    Keyword::Declare,
+    Keyword::Default,
+    Keyword::Enum,
+    Keyword::Error,
+    Keyword::Extends,
+    Keyword::False,
+    Keyword::Multi,
+    Keyword::Opposite,
+    Keyword::Pred,
+    Keyword::Refers,
+    Keyword::Scope,
+    Keyword::True,
+    Keyword::Unknown,
+];
+
+impl Keyword {
+    /// How the keyword is written.
+    pub fn as_str(self) -> &'static str
+        ensures { result.now ≡ keyword_spelling self }
+    {
+        match self {
+            Keyword::Abstract => "abstract",
+            Keyword::Atom => "atom",
+            Keyword::Class => "class",
+            Keyword::Container => "container",
+            Keyword::Contains => "contains",
+            Keyword::Declare => "declare",
+            Keyword::Default => "default",
+            Keyword::Enum => "enum",
+            Keyword::Error => "error",
+            Keyword::Extends => "extends",
+            Keyword::False => "false",
+            Keyword::Multi => "multi",
+            Keyword::Opposite => "opposite",
+            Keyword::Pred => "pred",
+            Keyword::Refers => "refers",
+            Keyword::Scope => "scope",
+            Keyword::True => "true",
+            Keyword::Unknown => "unknown",
+        }
+    }
+}
+
+/// The keyword that is written so.
+pub fn keyword_of(word: &str) -> Option<Keyword>
+    ensures found { IfSome result (λ k. word.now ≡ keyword_spelling k) }
+    ensures none { IfNone result ((k : _) → word.now ≡ keyword_spelling k → ⊥) }
+{
+    for i in 0..KEYWORDS.len() {
+        if KEYWORDS[i].as_str() == word {
+            return Some(KEYWORDS[i]);
+        }
+    }
+    None
 }

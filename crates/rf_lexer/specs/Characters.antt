@@ -1,0 +1,18 @@
+-- Lists of characters, each its number.
+use Rattle.std.specs.Prelude.{◌≡◌, ℕ, Bool, false, IsTrue, List, [], ◌∷◌, ◌++◌}
+
+-- each of these characters passes the test
+abbrev pub EachPasses : (ℕ → Bool) → List ℕ → Type 0
+EachPasses p [] = Unit {0}
+EachPasses p (c ∷ cs) = IsTrue (p c) × EachPasses p cs
+
+-- no character follows, or the next one fails the test
+abbrev pub StopsAt : (ℕ → Bool) → List ℕ → Type 0
+StopsAt p [] = Unit {0}
+StopsAt p (c ∷ cs) = p c ≡ false
+
+-- these characters stand somewhere in cs, one behind the other
+pub record StandsIn (these cs : List ℕ) : Type 0 where
+  pub before : List ℕ
+  pub behind : List ℕ
+  pub joined : cs ≡ before ++ (these ++ behind)

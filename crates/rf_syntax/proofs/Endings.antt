@@ -1,0 +1,263 @@
+-- The kinds at which statements end.
+use Rattle.std.proofs.Common.{◌≡◌, Bool, true, false, not, List, [], ◌∷◌, ◌++◌, Option, None, Some, if◌then◌else◌, refl, sym, ap, ◌∙◌, append_assoc, true≢false}
+use Rattle.std.proofs.lemmas.Bool.{and_parts, and_from}
+use Rattle.std.specs.List.{flat_map, list_all}
+use Rattle.rf_lexer.specs.declared.token.Kind.{Kind}
+use Rattle.rf_lexer.specs.declared.token.Kind.TheVariants.{Quoted, Name as Identifier}
+use Rattle.rf_syntax.specs.declared.list.List.{List as NonEmpty}
+use Rattle.rf_syntax.specs.declared.assertion.Arg.{Arg}
+use Rattle.rf_syntax.specs.declared.assertion.Arg.TheVariants.{Star, Symbol}
+use Rattle.rf_syntax.specs.declared.assertion.AssertionForm.{AssertionForm}
+use Rattle.rf_syntax.specs.declared.assertion.AssertionForm.TheVariants.{Plain, Not, Maybe, Valued}
+use Rattle.rf_syntax.specs.declared.assertion.AtomForm.{AtomForm}
+use Rattle.rf_syntax.specs.declared.assertion.ValueWord.{ValueWord}
+use Rattle.rf_syntax.specs.declared.assertion.ValueWord.TheVariants.{True, False, Unknown, Error as ErrorValue}
+use Rattle.rf_syntax.specs.declared.class.Feature.{Feature}
+use Rattle.rf_syntax.specs.declared.class.FeatureWord.{FeatureWord}
+use Rattle.rf_syntax.specs.declared.class.FeatureWord.TheVariants.{Contains, Container, Refers}
+use Rattle.rf_syntax.specs.declared.class.MultPlace.{MultPlace}
+use Rattle.rf_syntax.specs.declared.class.MultPlace.TheVariants.{Absent, AfterType, AfterName}
+use Rattle.rf_syntax.specs.declared.name.Name.{Name}
+use Rattle.rf_syntax.specs.declared.name.SymbolName.{SymbolName}
+use Rattle.rf_syntax.specs.declared.predicate.BodyLiteral.{BodyLiteral}
+use Rattle.rf_syntax.specs.declared.predicate.BodyLiteral.TheVariants.{Call, Same, Differ}
+use Rattle.rf_syntax.specs.declared.predicate.Param.{Param}
+use Rattle.rf_syntax.specs.declared.predicate.PredicateWord.{PredicateWord}
+use Rattle.rf_syntax.specs.declared.predicate.PredicateWord.TheVariants.{Pred, Error, ErrorPred}
+use Rattle.rf_syntax.specs.declared.range.Mult.{Mult}
+use Rattle.rf_syntax.specs.declared.range.Range.{Range}
+use Rattle.rf_syntax.specs.declared.range.Upper.{Upper}
+use Rattle.rf_syntax.specs.declared.range.Upper.TheVariants.{Absent as NoUpper, Star as StarUpper, Number}
+use Rattle.rf_syntax.specs.declared.statement.Bound.{Bound}
+use Rattle.rf_syntax.specs.declared.statement.Item.{Item}
+use Rattle.rf_syntax.specs.declared.statement.Statement.{Statement}
+use Rattle.rf_syntax.specs.declared.statement.Statement.TheVariants.{Class, Predicate, Declare, Multi, Scope, Assert}
+use Rattle.rf_syntax.specs.Assertion.{spelled_arg, spelled_assertion, spelled_atom, spelled_value}
+use Rattle.rf_syntax.specs.Class.{spelled_feature, spelled_feature_word, spelled_with_mult}
+use Rattle.rf_syntax.specs.Laws.{EndsOnce, StatementEndsOnce, StatementsAreApart, ends_statement, first_of_statement}
+use Rattle.rf_syntax.specs.Name.{spelled_name, spelled_symbol}
+use Rattle.rf_syntax.specs.Parts.{each_behind, flagged, in_parens, optional, optional_behind, separated, separated_or_none}
+use Rattle.rf_syntax.specs.Predicate.{spelled_clause, spelled_literal, spelled_param, spelled_start}
+use Rattle.rf_syntax.specs.Range.{spelled_mult, spelled_range, spelled_upper}
+use Rattle.rf_syntax.specs.Statement.{spelled_bound, spelled_item, spelled_statement}
+use Rattle.rf_syntax.specs.Terminals.{abstract_word, class_word, default_word, extends_word, opposite_word, bang, colon_colon, comma, dot, equal, left_brace, plus, plus_equal, right_brace, semicolon}
+use Rattle.rf_syntax.proofs.Beginnings.{statement_begins}
+
+-- whether a statement goes on behind a kind
+abbrev goes_on : Kind → Bool
+goes_on kind = not (ends_statement kind)
+
+-- no statement ends within these kinds
+record Inside (kinds : List Kind) : Type 0 where
+  passed : list_all goes_on kinds ≡ true
+
+-- how lists of such kinds are made
+nothing : Inside []
+nothing = record { passed = refl }
+
+behind : {kind : Kind} {kinds : List Kind} → goes_on kind ≡ true → Inside kinds → Inside (kind ∷ kinds)
+behind {kind} {kinds} h rest = record { passed = and_from (goes_on kind) (list_all goes_on kinds) h rest.passed }
+
+alone : {kind : Kind} → goes_on kind ≡ true → Inside (kind ∷ [])
+alone h = behind h nothing
+
+-- two of them joined are one
+all_joined : (xs ys : List Kind) → list_all goes_on xs ≡ true → list_all goes_on ys ≡ true → list_all goes_on (xs ++ ys) ≡ true
+all_joined [] ys a b = b
+all_joined (x ∷ xs) ys a b =
+    let parts = and_parts (goes_on x) (list_all goes_on xs) a in
+    and_from (goes_on x) (list_all goes_on (xs ++ ys)) parts.0 (all_joined xs ys parts.1 b)
+
+join : {xs ys : List Kind} → Inside xs → Inside ys → Inside (xs ++ ys)
+join {xs} {ys} a b = record { passed = all_joined xs ys a.passed b.passed }
+
+-- the parts of which statements are made, from the smallest on
+in_flagged : (flag : Bool) (kind : Kind) → goes_on kind ≡ true → Inside (flagged flag kind)
+in_flagged true kind h = alone h
+in_flagged false kind h = nothing
+
+module _ {T : Type 0} {spelled : T → List Kind} (inner : (part : T) → Inside (spelled part)) where
+  in_optional : (part : Option T) → Inside (optional spelled part)
+  in_optional None = nothing
+  in_optional (Some part) = inner part
+
+  in_optional_behind : (kind : Kind) → goes_on kind ≡ true → (part : Option T) → Inside (optional_behind kind spelled part)
+  in_optional_behind kind h None = nothing
+  in_optional_behind kind h (Some part) = behind h (inner part)
+
+  in_each : (parts : List T) → Inside (flat_map spelled parts)
+  in_each [] = nothing
+  in_each (part ∷ parts) = join (inner part) (in_each parts)
+
+  in_each_behind : (kind : Kind) → goes_on kind ≡ true → (parts : List T) → Inside (each_behind kind spelled parts)
+  in_each_behind kind h [] = nothing
+  in_each_behind kind h (part ∷ parts) = join (behind h (inner part)) (in_each_behind kind h parts)
+
+  in_separated : (kind : Kind) → goes_on kind ≡ true → (parts : NonEmpty T) → Inside (separated kind spelled parts)
+  in_separated kind h parts = join (inner parts.first) (in_each_behind kind h parts.rest)
+
+  in_separated_or_none : (kind : Kind) → goes_on kind ≡ true → (parts : List T) → Inside (separated_or_none kind spelled parts)
+  in_separated_or_none kind h [] = nothing
+  in_separated_or_none kind h (part ∷ parts) = join (inner part) (in_each_behind kind h parts)
+
+in_parentheses : {kinds : List Kind} → Inside kinds → Inside (in_parens kinds)
+in_parentheses h = join (behind refl h) (alone refl)
+
+in_name : (n : Name) → Inside (spelled_name n)
+in_name n = elim n.quoted as (λ q. Inside ((if q then Quoted n.text else Identifier n.text) ∷ [])) [ true ↦ alone refl | false ↦ alone refl ]
+
+in_symbol : (s : SymbolName) → Inside (spelled_symbol s)
+in_symbol s = join (in_name s.name) (in_optional_behind in_name colon_colon refl s.member)
+
+in_upper : (u : Upper) → Inside (spelled_upper u)
+in_upper NoUpper = nothing
+in_upper StarUpper = behind refl (alone refl)
+in_upper (Number n) = behind refl (alone refl)
+
+in_range : (r : Range) → Inside (spelled_range r)
+in_range r = behind refl (in_upper r.hi)
+
+in_mult : (m : Mult) → Inside (spelled_mult m)
+in_mult m = join (behind refl (in_optional in_range m.range)) (alone refl)
+
+in_feature_word : (w : FeatureWord) → Inside (spelled_feature_word w)
+in_feature_word Contains = alone refl
+in_feature_word Container = alone refl
+in_feature_word Refers = alone refl
+
+in_with_mult : (place : MultPlace) (name : Name) → Inside (spelled_with_mult place name)
+in_with_mult Absent name = in_name name
+in_with_mult (AfterType mult) name = join (in_mult mult) (in_name name)
+in_with_mult (AfterName mult) name = join (in_name name) (in_mult mult)
+
+in_feature : (f : Feature) → Inside (spelled_feature f)
+in_feature f =
+    let word = in_optional in_feature_word f.word in
+    let named = join (join word (in_name f.target)) (in_with_mult f.mult f.name) in
+    join (join named (in_optional_behind in_name opposite_word refl f.opposite)) (in_flagged f.semicolon semicolon refl)
+
+in_param : (p : Param) → Inside (spelled_param p)
+in_param p = join (in_optional in_name p.class) (in_name p.name)
+
+in_literal : (l : BodyLiteral) → Inside (spelled_literal l)
+in_literal (Call negated symbol closure args) =
+    join (join (join (in_flagged negated bang refl) (in_symbol symbol)) (in_flagged closure plus refl)) (in_parentheses (in_separated_or_none in_name comma refl args))
+in_literal (Same left right) = join (in_name left) (behind refl (in_name right))
+in_literal (Differ left right) = join (in_name left) (behind refl (in_name right))
+
+in_clause : (literals : NonEmpty BodyLiteral) → Inside (spelled_clause literals)
+in_clause literals = in_separated in_literal comma refl literals
+
+in_start : (start : PredicateWord) → Inside (spelled_start start)
+in_start Pred = alone refl
+in_start Error = alone refl
+in_start ErrorPred = behind refl (alone refl)
+
+in_arg : (a : Arg) → Inside (spelled_arg a)
+in_arg Star = alone refl
+in_arg (Symbol symbol) = in_symbol symbol
+
+in_atom : (a : AtomForm) → Inside (spelled_atom a)
+in_atom a = join (in_symbol a.symbol) (in_parentheses (in_separated_or_none in_arg comma refl a.args))
+
+in_value : (v : ValueWord) → Inside (spelled_value v)
+in_value True = alone refl
+in_value False = alone refl
+in_value Unknown = alone refl
+in_value ErrorValue = alone refl
+
+in_assertion : (a : AssertionForm) → Inside (spelled_assertion a)
+in_assertion (Plain atom) = in_atom atom
+in_assertion (Not atom) = behind refl (in_atom atom)
+in_assertion (Maybe atom) = behind refl (in_atom atom)
+in_assertion (Valued atom value) = join (in_atom atom) (behind refl (in_value value))
+
+in_item : (i : Item) → Inside (spelled_item i)
+in_item i = join (in_name i.name) (in_optional_behind in_range equal refl i.range)
+
+in_equal : (only_new : Bool) → goes_on (if only_new then plus_equal else equal) ≡ true
+in_equal true = refl
+in_equal false = refl
+
+in_bound : (b : Bound) → Inside (spelled_bound b)
+in_bound b = join (in_name b.name) (behind (in_equal b.only_new) (in_range b.range))
+
+-- kinds within a statement, and one that ends it
+ended_at : {kinds front : List Kind} (last : Kind) → kinds ≡ front ++ last ∷ [] → ends_statement last ≡ true → Inside front → EndsOnce kinds
+ended_at {kinds} {front} last e h inside = record { front = front; last = last; joined = e; inside = inside.passed; ended = h }
+
+ended : {front : List Kind} (last : Kind) → ends_statement last ≡ true → Inside front → EndsOnce (front ++ last ∷ [])
+ended last h inside = ended_at last refl h inside
+
+-- the kinds of a class in front of its body
+abbrev head_of_class : Bool → Name → Option (NonEmpty Name) → List Kind
+head_of_class is_abstract name supers =
+    flagged is_abstract abstract_word ++ class_word ∷ spelled_name name ++ optional_behind extends_word (separated comma spelled_name) supers
+
+in_head : (is_abstract : Bool) (name : Name) (supers : Option (NonEmpty Name)) → Inside (head_of_class is_abstract name supers)
+in_head is_abstract name supers =
+    join (join (in_flagged is_abstract abstract_word refl) (behind refl (in_name name))) (in_optional_behind (in_separated in_name comma refl) extends_word refl supers)
+
+pub statement_ends : StatementEndsOnce
+statement_ends (Class is_abstract name supers None) = ended dot refl (in_head is_abstract name supers)
+statement_ends (Class is_abstract name supers (Some features)) =
+    ended_at right_brace (sym (append_assoc (head_of_class is_abstract name supers) (left_brace ∷ flat_map spelled_feature features) (right_brace ∷ []))) refl
+    (join (in_head is_abstract name supers) (behind refl (in_each in_feature features)))
+statement_ends (Predicate start name params clauses) =
+    ended dot refl
+    (join
+    (join (join (in_start start) (in_name name)) (in_parentheses (in_separated_or_none in_param comma refl params)))
+    (behind refl (in_separated in_clause semicolon refl clauses)))
+statement_ends (Declare names) = ended dot refl (behind refl (in_separated in_name comma refl names))
+statement_ends (Multi items) = ended dot refl (behind refl (in_separated in_item comma refl items))
+statement_ends (Scope bounds) = ended dot refl (behind refl (in_separated in_bound comma refl bounds))
+statement_ends (Assert is_default assertion) = ended dot refl (join (in_flagged is_default default_word refl) (in_assertion assertion))
+
+-- no kind both ends a statement and goes on
+clash : (ends : Bool) → ends ≡ true → not ends ≡ true → ⊥
+clash true h k = true≢false (sym k)
+clash false h k = true≢false (sym h)
+
+-- two lists of kinds that go on behind a first end have the same kinds up to it, and behind it
+first_end : (xs ys : List Kind) (x y : Kind) (more rest : List Kind) → list_all goes_on xs ≡ true → list_all goes_on ys ≡ true → ends_statement x ≡ true → ends_statement y ≡ true
+    → xs ++ x ∷ more ≡ ys ++ y ∷ rest → (xs ++ x ∷ [] ≡ ys ++ y ∷ []) × (more ≡ rest)
+first_end [] [] x y more rest h k m n e = (cc, cc)
+first_end [] (b ∷ ys) x y more rest h k m n e =
+    let same : x ≡ b = cc in
+    absurd (clash (ends_statement b) (sym (ap ends_statement same) ∙ m) (and_parts (goes_on b) (list_all goes_on ys) k).0)
+first_end (a ∷ xs) [] x y more rest h k m n e =
+    let same : a ≡ y = cc in
+    absurd (clash (ends_statement a) (ap ends_statement same ∙ n) (and_parts (goes_on a) (list_all goes_on xs) h).0)
+first_end (a ∷ xs) (b ∷ ys) x y more rest h k m n e =
+    let same : a ≡ b = cc in
+    let behind_it : xs ++ x ∷ more ≡ ys ++ y ∷ rest = cc in
+    let left = (and_parts (goes_on a) (list_all goes_on xs) h).1 in
+    let right = (and_parts (goes_on b) (list_all goes_on ys) k).1 in
+    let both = first_end xs ys x y more rest left right m n behind_it in
+    (cc, both.1)
+
+-- what follows a statement stands behind its last kind
+rejoin : (front : List Kind) (last : Kind) (kinds more : List Kind) → kinds ≡ front ++ last ∷ [] → kinds ++ more ≡ front ++ last ∷ more
+rejoin front last kinds more e = ap (λ ks. ks ++ more) e ∙ append_assoc front (last ∷ []) more
+
+-- a statement has a kind
+not_nothing : (t : Statement) (more : List Kind) → [] ≡ spelled_statement t ++ more → ⊥
+not_nothing t more e =
+    let begun = statement_begins t in
+    let whole : [] ≡ first_of_statement t ∷ (begun.0 ++ more) = e ∙ ap (λ ks. ks ++ more) begun.1 in
+    cc
+
+pub statements_apart : StatementsAreApart
+statements_apart [] [] e = refl
+statements_apart [] (t ∷ ts) e = absurd (not_nothing t (flat_map spelled_statement ts) e)
+statements_apart (s ∷ ss) [] e = absurd (not_nothing s (flat_map spelled_statement ss) (sym e))
+statements_apart (s ∷ ss) (t ∷ ts) e =
+    let a = statement_ends s in
+    let b = statement_ends t in
+    let more = flat_map spelled_statement ss in
+    let rest = flat_map spelled_statement ts in
+    let whole = sym (rejoin a.front a.last (spelled_statement s) more a.joined) ∙ e ∙ rejoin b.front b.last (spelled_statement t) rest b.joined in
+    let both = first_end a.front b.front a.last b.last more rest a.inside b.inside a.ended b.ended whole in
+    let here : spelled_statement s ≡ spelled_statement t = a.joined ∙ both.0 ∙ sym b.joined in
+    let later = statements_apart ss ts both.1 in
+    cc

@@ -1,0 +1,9 @@
+pub mod Assertion
+pub mod Class
+pub mod Laws
+pub mod Name
+pub mod Parts
+pub mod Predicate
+pub mod Range
+pub mod Statement
+pub mod Terminals

@@ -1,0 +1,34 @@
+use crate::{Mult, Name};
+
+/// A reference that a class declares.
+#[derive(Debug, Drop)]
+pub struct Feature {
+    pub word: Option<FeatureWord>,
+    /// The target class, which stands first.
+    pub target: Name,
+    pub name: Name,
+    pub mult: MultPlace,
+    pub opposite: Option<Name>,
+    /// Whether a semicolon ends it.
+    pub semicolon: bool,
+}
+
+/// The word in front of a feature.
+#[derive(Clone, Copy, Debug, PartialEq, Eq)]
+pub enum FeatureWord {
+    Contains,
+    Container,
+    /// It means the same as no word.
+    Refers,
+}
+
+/// Where in a feature the multiplicity stands.
+#[derive(Clone, Copy, Debug, PartialEq, Eq)]
+pub enum MultPlace {
+    /// Nowhere.
+    Absent,
+    /// Between the target class and the reference's name.
+    AfterType(Mult),
+    /// Behind the reference's name.
+    AfterName(Mult),
+}

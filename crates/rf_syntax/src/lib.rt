@@ -1,0 +1,25 @@
+//! The statement tree of problem texts, and its spelling: the kinds of the tokens that a tree stands for.
+#![tactic(auto)]
+
+mod assertion;
+mod class;
+mod laws;
+mod list;
+mod name;
+mod predicate;
+mod range;
+mod spell;
+mod statement;
+
+pub use assertion::{Arg, AssertionForm, AtomForm, ValueWord};
+pub use class::{Feature, FeatureWord, MultPlace};
+pub use laws::{statement_begins_law, statement_ends_law, statements_apart_law};
+pub use list::List;
+pub use name::{Name, SymbolName};
+pub use predicate::{BodyLiteral, Param, PredicateWord};
+pub use range::{Mult, Range, Upper};
+pub use spell::spelling;
+pub use statement::{Ast, Bound, Item, Statement};
+
+#[cfg(test)]
+mod tests;

@@ -1,0 +1,8 @@
+use rf_text::Items;
+
+/// A list of at least one item.
+#[derive(Debug, Drop)]
+pub struct List<T> {
+    pub first: T,
+    pub rest: Items<T>,
+}

@@ -1,0 +1,36 @@
+ghost use Rattle.std.specs.Prelude.{◌≡◌, IfOk};
+ghost use Rattle.rf_syntax.specs.Name.{kind_of_name, spelled_name, spelled_symbol};
+
+use super::parts::{push_kind, push_optional_behind};
+use super::production::Production;
+use crate::{Name, SymbolName};
+use rf_lexer::{Kind, Mark};
+use std::alloc::AllocError;
+
+fn kind_of(name: &Name) -> Result<Kind, AllocError>
+    ensures { IfOk result (λ kind. kind ≡ kind_of_name name.now) }
+{
+    let text = name.text.clone()?;
+    if name.quoted {
+        Ok(Kind::Quoted(text))
+    } else {
+        Ok(Kind::Name(text))
+    }
+}
+
+impl Production for Name {
+    ghost kinds = { spelled_name };
+
+    fn push_to(&self, out: &mut Vec<Kind>) -> Result<(), AllocError> {
+        push_kind(out, kind_of(self)?)
+    }
+}
+
+impl Production for SymbolName {
+    ghost kinds = { spelled_symbol };
+
+    fn push_to(&self, out: &mut Vec<Kind>) -> Result<(), AllocError> {
+        self.name.push_to(out)?;
+        push_optional_behind(out, Kind::Mark(Mark::ColonColon), &self.member)
+    }
+}

@@ -1,0 +1,121 @@
+ghost use Rattle.std.specs.Prelude.{◌≡◌, ◌++◌, ◌∷◌, [], OnOk};
+ghost use Rattle.std.specs.List.{flat_map};
+ghost use Rattle.rf_syntax.specs.Parts.{each_behind, flagged, optional, optional_behind, separated, separated_or_none};
+ghost use Rattle.rf_syntax.specs.Terminals.{comma};
+
+use super::production::Production;
+use crate::List;
+use rf_lexer::{Keyword, Kind, Mark};
+use std::alloc::AllocError;
+
+pub fn push_kind(out: &mut Vec<Kind>, kind: Kind) -> Result<(), AllocError>
+    ensures { OnOk result (out.new.items ≡ out.old.items ++ kind ∷ []) }
+{
+    out.push(kind)?;
+    Ok(())
+}
+
+pub fn push_word(out: &mut Vec<Kind>, word: Keyword) -> Result<(), AllocError>
+    ensures { OnOk result (out.new.items ≡ out.old.items ++ Kind.Word word ∷ []) }
+{
+    push_kind(out, Kind::Word(word))
+}
+
+pub fn push_mark(out: &mut Vec<Kind>, mark: Mark) -> Result<(), AllocError>
+    ensures { OnOk result (out.new.items ≡ out.old.items ++ Kind.Mark mark ∷ []) }
+{
+    push_kind(out, Kind::Mark(mark))
+}
+
+// Appends a kind where a flag is set.
+pub fn push_flagged(out: &mut Vec<Kind>, flag: bool, kind: Kind) -> Result<(), AllocError>
+    ensures { OnOk result (out.new.items ≡ out.old.items ++ flagged flag kind) }
+{
+    if flag { push_kind(out, kind) } else { Ok(()) }
+}
+
+pub fn push_optional<T: Production>(out: &mut Vec<Kind>, part: &Option<T>) -> Result<(), AllocError>
+    ensures { OnOk result (out.new.items ≡ out.old.items ++ optional T.kinds part.now) }
+{
+    match part {
+        None => Ok(()),
+        Some(part) => part.push_to(out),
+    }
+}
+
+pub fn push_optional_behind<T: Production>(
+    out: &mut Vec<Kind>,
+    kind: Kind,
+    part: &Option<T>,
+) -> Result<(), AllocError>
+    ensures { OnOk result (out.new.items ≡ out.old.items ++ optional_behind kind T.kinds part.now) }
+{
+    match part {
+        None => Ok(()),
+        Some(part) => {
+            push_kind(out, kind)?;
+            part.push_to(out)
+        }
+    }
+}
+
+// Appends one part after another.
+pub fn push_each<T: Production>(out: &mut Vec<Kind>, parts: &[T]) -> Result<(), AllocError>
+    ensures { OnOk result (out.new.items ≡ out.old.items ++ flat_map T.kinds parts.now) }
+{
+    for part in parts {
+        part.push_to(out)?;
+    }
+    Ok(())
+}
+
+// Appends one part after another, each behind the mark.
+pub fn push_each_behind<T: Production>(
+    out: &mut Vec<Kind>,
+    mark: Mark,
+    parts: &[T],
+) -> Result<(), AllocError>
+    ensures { OnOk result (out.new.items ≡ out.old.items ++ each_behind (Kind.Mark mark) T.kinds parts.now) }
+{
+    for part in parts {
+        push_mark(out, mark)?;
+        part.push_to(out)?;
+    }
+    Ok(())
+}
+
+pub fn push_separated<T: Production>(
+    out: &mut Vec<Kind>,
+    mark: Mark,
+    parts: &List<T>,
+) -> Result<(), AllocError>
+    ensures { OnOk result (out.new.items ≡ out.old.items ++ separated (Kind.Mark mark) T.kinds parts.now) }
+{
+    parts.first.push_to(out)?;
+    push_each_behind(out, mark, parts.rest.as_slice())
+}
+
+pub fn push_separated_or_none<T: Production>(
+    out: &mut Vec<Kind>,
+    mark: Mark,
+    parts: &[T],
+) -> Result<(), AllocError>
+    ensures { OnOk result (out.new.items ≡ out.old.items ++ separated_or_none (Kind.Mark mark) T.kinds parts.now) }
+{
+    match parts {
+        [] => Ok(()),
+        [first, rest @ ..] => {
+            first.push_to(out)?;
+            push_each_behind(out, mark, rest)
+        }
+    }
+}
+
+// Where the grammar has a list of parts in one place, commas stand between them.
+impl<T: Production> Production for List<T> {
+    ghost kinds = { separated comma T.kinds };
+
+    fn push_to(&self, out: &mut Vec<Kind>) -> Result<(), AllocError> {
+        push_separated(out, Mark::Comma, self)
+    }
+}

@@ -1,0 +1,90 @@
+ghost use Rattle.std.specs.Prelude.{◌≡◌, ◌++◌, ◌∷◌, [], OnOk};
+ghost use Rattle.rf_syntax.specs.Assertion.{spelled_assertion};
+ghost use Rattle.rf_syntax.specs.Parts.{flagged, separated};
+ghost use Rattle.rf_syntax.specs.Statement.{spelled_bound, spelled_item, spelled_statement};
+ghost use Rattle.rf_syntax.specs.Terminals.{comma, default_word, dot};
+
+use super::classes::push_class;
+use super::parts::{push_flagged, push_mark, push_optional_behind, push_word};
+use super::predicates::push_predicate;
+use super::production::Production;
+use crate::{AssertionForm, Bound, Item, List, Statement};
+use rf_lexer::{Keyword, Kind, Mark};
+use std::alloc::AllocError;
+
+impl Production for Item {
+    ghost kinds = { spelled_item };
+
+    fn push_to(&self, out: &mut Vec<Kind>) -> Result<(), AllocError> {
+        self.name.push_to(out)?;
+        push_optional_behind(out, Kind::Mark(Mark::Equal), &self.range)
+    }
+}
+
+impl Production for Bound {
+    ghost kinds = { spelled_bound };
+
+    fn push_to(&self, out: &mut Vec<Kind>) -> Result<(), AllocError> {
+        self.name.push_to(out)?;
+        let mark = if self.only_new {
+            Mark::PlusEqual
+        } else {
+            Mark::Equal
+        };
+        push_mark(out, mark)?;
+        self.range.push_to(out)
+    }
+}
+
+// Appends a word, a list with commas between its parts, and a full stop.
+fn push_list<T: Production>(
+    out: &mut Vec<Kind>,
+    word: Keyword,
+    parts: &List<T>,
+) -> Result<(), AllocError>
+    ensures { OnOk result (out.new.items ≡ out.old.items ++ (Kind.Word word ∷ separated comma T.kinds parts.now ++ dot ∷ [])) }
+{
+    push_word(out, word)?;
+    parts.push_to(out)?;
+    push_mark(out, Mark::Dot)
+}
+
+fn push_assertion(
+    out: &mut Vec<Kind>,
+    is_default: bool,
+    assertion: &AssertionForm,
+) -> Result<(), AllocError>
+    ensures { OnOk result (out.new.items ≡ out.old.items ++ (flagged is_default default_word ++ spelled_assertion assertion.now ++ dot ∷ [])) }
+{
+    push_flagged(out, is_default, Kind::Word(Keyword::Default))?;
+    assertion.push_to(out)?;
+    push_mark(out, Mark::Dot)
+}
+
+impl Production for Statement {
+    ghost kinds = { spelled_statement };
+
+    fn push_to(&self, out: &mut Vec<Kind>) -> Result<(), AllocError> {
+        match self {
+            Statement::Class {
+                is_abstract,
+                name,
+                supers,
+                body,
+            } => push_class(out, *is_abstract, name, supers, body),
+            Statement::Predicate {
+                start,
+                name,
+                params,
+                clauses,
+            } => push_predicate(out, *start, name, params, clauses),
+            Statement::Declare(names) => push_list(out, Keyword::Declare, names),
+            Statement::Multi(items) => push_list(out, Keyword::Multi, items),
+            Statement::Scope(bounds) => push_list(out, Keyword::Scope, bounds),
+            Statement::Assert {
+                is_default,
+                assertion,
+            } => push_assertion(out, *is_default, assertion),
+        }
+    }
+}

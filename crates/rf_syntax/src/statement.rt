@@ -1,0 +1,48 @@
+use crate::{AssertionForm, BodyLiteral, Feature, List, Name, Param, PredicateWord, Range};
+use rf_text::Items;
+
+/// The statements of a problem text, in order.
+#[derive(Debug, Drop)]
+pub struct Ast {
+    pub statements: Items<Statement>,
+}
+
+#[derive(Debug, Drop)]
+pub enum Statement {
+    Class {
+        is_abstract: bool,
+        name: Name,
+        supers: Option<List<Name>>,
+        /// The features between braces, or None where a `.` ends the statement.
+        body: Option<Items<Feature>>,
+    },
+    Predicate {
+        start: PredicateWord,
+        name: Name,
+        params: Items<Param>,
+        clauses: List<List<BodyLiteral>>,
+    },
+    Declare(List<Name>),
+    Multi(List<Item>),
+    Scope(List<Bound>),
+    Assert {
+        is_default: bool,
+        assertion: AssertionForm,
+    },
+}
+
+/// An object that stands for several nodes.
+#[derive(Debug, Drop)]
+pub struct Item {
+    pub name: Name,
+    pub range: Option<Range>,
+}
+
+/// A bound on how many nodes a class has.
+#[derive(Debug, Drop)]
+pub struct Bound {
+    pub name: Name,
+    /// Whether it is written `+=`, and counts only nodes of new objects.
+    pub only_new: bool,
+    pub range: Range,
+}
