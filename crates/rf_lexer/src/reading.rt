@@ -52,9 +52,6 @@ fn first_lexeme(alloc: Global, place: u64, text: &str) -> Result<(Kind, &str), L
     ensures shorter { IfOk result (λ p. length p.1.now < length text.now) }
     ensures fault { IfErr result (λ e. Fails e place (chars text.now)) }
 {
-    if let Some((mark, rest)) = first_mark(text) {
-        return Ok((Kind::Mark(mark), rest));
-    }
     let Some((first, after)) = first_char(text) else {
         unreachable!()
     };
@@ -66,6 +63,9 @@ fn first_lexeme(alloc: Global, place: u64, text: &str) -> Result<(Kind, &str), L
     }
     if first.is_ascii_digit() {
         return first_number(place, text, first, after);
+    }
+    if let Some((mark, rest)) = first_mark(text) {
+        return Ok((Kind::Mark(mark), rest));
     }
     Err(stray(place, first, after))
 }
