@@ -1,3 +1,6 @@
+pub mod Identifier
+pub mod Laws
 pub mod Line
 pub mod Name
 pub mod Number
+pub mod Written

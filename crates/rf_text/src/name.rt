@@ -1,10 +1,7 @@
-ghost use Rattle.std.specs.Prelude.{◌≡◌, ◌++◌, ◌↔◌, IsTrue, OnOk, OnErr};
+ghost use Rattle.std.specs.Prelude.{◌≡◌, ◌↔◌, IsTrue};
 ghost use Rattle.std.specs.List.{list_any};
 ghost use Rattle.std.specs.Str.{bytes_eq};
-ghost use Rattle.rf_text.specs.Name.{IsName, is_name_start, is_name_byte, is_reserved};
-
-use crate::Text;
-use std::alloc::{AllocError, Global};
+ghost use Rattle.rf_text.specs.Name.{IsName, is_name_start, is_name_byte, is_keyword, is_reserved};
 
 fn is_name_start(byte: u8) -> bool
     ensures { result ≡ is_name_start byte }
@@ -24,9 +21,9 @@ fn is_among(name: &[u8], words: &[&str]) -> bool
     words.iter().any(|word| word.as_bytes() == name)
 }
 
-// The keywords of the language, and the names that it gives a meaning of its own.
-fn is_reserved(name: &[u8]) -> bool
-    ensures { result ≡ is_reserved name.now }
+/// Whether the bytes are a keyword of the language.
+pub fn is_keyword(name: &[u8]) -> bool
+    ensures { result ≡ is_keyword name.now }
 {
     is_among(
         name,
@@ -49,15 +46,19 @@ fn is_reserved(name: &[u8]) -> bool
             "scope",
             "true",
             "unknown",
-            "node",
-            "exists",
-            "equals",
         ],
     )
 }
 
-/// Whether the bytes are a name that is written bare: a letter of ASCII or `_`, then letters, digits
-/// or `_`, at most 255 bytes in all, and neither a keyword nor `node`, `exists` or `equals`.
+// The keywords, and the names that the language gives a meaning of its own.
+fn is_reserved(name: &[u8]) -> bool
+    ensures { result ≡ is_reserved name.now }
+{
+    is_keyword(name) || is_among(name, &["node", "exists", "equals"])
+}
+
+/// Whether the bytes are a plain name: a letter of ASCII or `_`, then letters, digits or `_`, at most
+/// 255 bytes in all, and neither a keyword nor `node`, `exists` or `equals`.
 pub fn is_name(bytes: &[u8]) -> bool
     ensures { IsTrue result ↔ IsName bytes.now }
 {
@@ -69,13 +70,4 @@ pub fn is_name(bytes: &[u8]) -> bool
         }
         _ => false,
     }
-}
-
-/// Appends a name as documents write it.
-pub fn push_name(_alloc: Global, out: &mut Text, name: &Text) -> Result<(), AllocError>
-    requires { IsName name.now }
-    ensures ok { OnOk result (out.new ≡ out.old ++ name.now) }
-    ensures err { OnErr result (out.new ≡ out.old) }
-{
-    out.push_str(name.as_str())
 }
