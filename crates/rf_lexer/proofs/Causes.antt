@@ -9,7 +9,7 @@ use Rattle.rf_lexer.specs.Characters.{StopsAt}
 use Rattle.rf_lexer.specs.Fault.{IsBadCharacter, IsBigNumberAt, IsCause, IsLongNameAt, IsOpenComment, IsOpenQuote, LexFault}
 use Rattle.rf_lexer.specs.Gap.{BeginsNoGap, is_in_line}
 use Rattle.rf_lexer.specs.Kind.{IsBigNumber, IsLongest, IsLongName, Spells}
-use Rattle.rf_lexer.specs.Lexeme.{IsQuoted, is_in_quotes}
+use Rattle.rf_text.specs.Identifier.{IsQuoted, is_in_quotes}
 use Rattle.rf_lexer.specs.Tokens.{IsToken, Lexemes, StandsAt}
 use Rattle.rf_lexer.specs.declared.error.LexError.{LexError}
 use Rattle.rf_lexer.specs.declared.error.LexError.TheVariants.{BadCharacter, OpenComment, OpenQuote, LongName, BigNumber, Memory}

@@ -6,7 +6,7 @@ use Rattle.std.proofs.lemmas.Str.Parse.{numerals_by_value, tells_digits, parse_p
 use Rattle.std.specs.Char.{digit_value, is_ascii_digit}
 use Rattle.std.specs.Str.{encode_utf8_all}
 use Rattle.std.specs.Str.Parse.{ParsesUnsigned, AllDigits, digits_value}
-use Rattle.rf_lexer.specs.Characters.{EachPasses}
+use Rattle.rf_text.specs.Identifier.{EachPasses}
 use Rattle.rf_lexer.specs.Fault.{IsBigNumberAt}
 use Rattle.rf_lexer.specs.Kind.{IsLongest}
 use Rattle.rf_lexer.specs.Lexeme.{IsNumber}

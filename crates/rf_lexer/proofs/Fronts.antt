@@ -1,7 +1,8 @@
 -- Fronts of a list, and how far they reach.
 use Rattle.std.proofs.lemmas.List.{append-nil, append_cancel_left}
 use Rattle.std.proofs.Common.{◌≡◌, ◌≢◌, ◌∙◌, ℕ, ◌≤◌, ◌+◌, Bool, true, false, List, [], ◌∷◌, ◌++◌, length, refl, sym, ap, arith, append_assoc, length-append}
-use Rattle.rf_lexer.specs.Characters.{EachPasses, StopsAt}
+use Rattle.rf_text.specs.Identifier.{EachPasses}
+use Rattle.rf_lexer.specs.Characters.{StopsAt}
 
 -- the longer of two fronts goes on where the shorter ends
 pub longer_front :

@@ -7,7 +7,8 @@ use Rattle.std.proofs.lemmas.Bool.Decides.{nat_tests}
 use Rattle.unicode_ident.proofs.IdentLemmas.{is_xid_start-ascii}
 use Rattle.rf_lexer.specs.Gap.{IsPastOne, is_space}
 use Rattle.rf_lexer.specs.Kind.{Spells}
-use Rattle.rf_lexer.specs.Lexeme.{IsIdentifier, IsNumber, IsQuoted, starts_identifier}
+use Rattle.rf_text.specs.Identifier.{IsIdentifier, IsQuoted, starts_identifier}
+use Rattle.rf_lexer.specs.Lexeme.{IsNumber}
 use Rattle.rf_lexer.specs.Spelling.{mark_spelling}
 use Rattle.rf_lexer.specs.declared.mark.Mark.{Mark as AnyMark}
 use Rattle.rf_lexer.specs.declared.mark.Mark.TheVariants.{Dot, DotDot, Comma, Semicolon, Colon, ColonColon, LeftParen, RightParen, LeftBracket, RightBracket, LeftBrace, RightBrace, Bang, Question, Star, Plus, Equal, PlusEqual, EqualEqual, BangEqual, Iff}

@@ -6,7 +6,7 @@ use Rattle.unicode_ident.specs.Ident.{is_xid_continue}
 use Rattle.rf_lexer.specs.Characters.{StopsAt}
 use Rattle.rf_lexer.specs.Gap.{BeginsNoGap}
 use Rattle.rf_lexer.specs.Kind.{IsLongest, Spells}
-use Rattle.rf_lexer.specs.Lexeme.{IsIdentifier, IsQuoted, is_in_quotes}
+use Rattle.rf_text.specs.Identifier.{IsIdentifier, IsQuoted, is_in_quotes}
 use Rattle.rf_lexer.specs.Scan.{IsIdentifierTo, IsLongestMark, IsNumberTo}
 use Rattle.rf_lexer.specs.Spelling.{mark_spelling}
 use Rattle.rf_lexer.specs.declared.mark.Mark.{Mark as AnyMark}

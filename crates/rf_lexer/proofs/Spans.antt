@@ -1,6 +1,6 @@
 -- How far a scan for a span has come.
 use Rattle.std.proofs.Common.{◌≡◌, ◌∙◌, ℕ, Bool, true, false, List, [], ◌∷◌, ◌++◌, refl, ap}
-use Rattle.rf_lexer.specs.Characters.{EachPasses}
+use Rattle.rf_text.specs.Identifier.{EachPasses}
 use Rattle.rf_lexer.specs.Scan.{IsSpan}
 use Rattle.rf_lexer.proofs.Fronts.{EachPasses-push, regrouped}
 

@@ -7,7 +7,8 @@ use Rattle.unicode_ident.specs.Ident.{is_xid_continue}
 use Rattle.rf_lexer.specs.Fault.{IsLongNameAt}
 use Rattle.rf_lexer.specs.Gap.{BeginsNoGap, IsPastOne}
 use Rattle.rf_lexer.specs.Kind.{IsLongest}
-use Rattle.rf_lexer.specs.Lexeme.{IsNumber, IsQuoted, is_in_quotes, starts_identifier}
+use Rattle.rf_text.specs.Identifier.{IsQuoted, is_in_quotes, starts_identifier}
+use Rattle.rf_lexer.specs.Lexeme.{IsNumber}
 use Rattle.rf_lexer.specs.Scan.{IsClosed, IsIdentifierTo, IsLongestMark, IsNumberTo, IsSpan, Takes}
 use Rattle.rf_lexer.specs.Spelling.{keyword_spelling, mark_spelling}
 use Rattle.rf_lexer.specs.declared.keyword.Keyword.{Keyword}

@@ -1,10 +1,5 @@
 -- Lists of characters, each its number.
-use Rattle.std.specs.Prelude.{◌≡◌, ℕ, Bool, false, IsTrue, List, [], ◌∷◌, ◌++◌}
-
--- each of these characters passes the test
-abbrev pub EachPasses : (ℕ → Bool) → List ℕ → Type 0
-EachPasses p [] = Unit {0}
-EachPasses p (c ∷ cs) = IsTrue (p c) × EachPasses p cs
+use Rattle.std.specs.Prelude.{◌≡◌, ℕ, Bool, false, List, [], ◌∷◌, ◌++◌}
 
 -- no character follows, or the next one fails the test
 abbrev pub StopsAt : (ℕ → Bool) → List ℕ → Type 0

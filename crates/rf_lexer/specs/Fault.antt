@@ -1,10 +1,10 @@
 -- Where a text is no tokens, and why.
 use Rattle.std.specs.Prelude.{◌≡◌, ℕ, ◌<◌, List, ◌∷◌, ◌++◌, codes, length}
 use Rattle.std.specs.Str.{chars}
-use Rattle.rf_lexer.specs.Characters.{EachPasses, StandsIn, StopsAt}
+use Rattle.rf_text.specs.Identifier.{EachPasses, is_in_quotes}
+use Rattle.rf_lexer.specs.Characters.{StandsIn, StopsAt}
 use Rattle.rf_lexer.specs.Gap.{BeginsNoGap, is_in_line}
 use Rattle.rf_lexer.specs.Kind.{IsBigNumber, IsLongest, IsLongName, Spells}
-use Rattle.rf_lexer.specs.Lexeme.{is_in_quotes}
 use Rattle.rf_lexer.specs.Tokens.{AreTokens, StandsAt}
 use Rattle.rf_lexer.specs.declared.token.Kind.{Kind}
 use Rattle.rf_lexer.specs.declared.token.Token.{Token}

@@ -1,6 +1,7 @@
 -- What may stand between lexemes.
 use Rattle.std.specs.Prelude.{◌≡◌, ℕ, zero, suc, Bool, not, ◌||◌, ◌==◌, ◌⊎◌, IsTrue, List, [], ◌∷◌, ◌++◌, codes}
-use Rattle.rf_lexer.specs.Characters.{EachPasses, StandsIn, StopsAt}
+use Rattle.rf_text.specs.Identifier.{EachPasses}
+use Rattle.rf_lexer.specs.Characters.{StandsIn, StopsAt}
 
 -- a space, a tab, a line feed or a carriage return
 abbrev pub is_space : ℕ → Bool

@@ -2,7 +2,8 @@
 use Rattle.std.specs.Prelude.{◌≡◌, ℕ, ◌<◌, ◌≤◌, List, ◌++◌, length}
 use Rattle.std.specs.Str.{encode_utf8_all}
 use Rattle.std.specs.Str.Parse.{digits_value}
-use Rattle.rf_lexer.specs.Lexeme.{IsIdentifier, IsNumber, IsQuoted}
+use Rattle.rf_text.specs.Identifier.{IsIdentifier, IsQuoted}
+use Rattle.rf_lexer.specs.Lexeme.{IsNumber}
 use Rattle.rf_lexer.specs.Spelling.{keyword_spelling, mark_spelling}
 use Rattle.rf_lexer.specs.declared.keyword.Keyword.{Keyword}
 use Rattle.rf_lexer.specs.declared.token.Kind.{Kind}

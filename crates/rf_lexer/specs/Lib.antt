@@ -2,6 +2,7 @@ pub mod Characters
 pub mod Fault
 pub mod Gap
 pub mod Kind
+pub mod Laws
 pub mod Lexeme
 pub mod Scan
 pub mod Spelling

@@ -2,9 +2,10 @@
 use Rattle.std.specs.Prelude.{◌≡◌, ◌≢◌, ℕ, ◌≤◌, Bool, List, ◌++◌, codes, length}
 use Rattle.std.specs.Char.{is_ascii_digit}
 use Rattle.unicode_ident.specs.Ident.{is_xid_continue}
-use Rattle.rf_lexer.specs.Characters.{EachPasses, StandsIn, StopsAt}
+use Rattle.rf_text.specs.Identifier.{EachPasses, IsIdentifier, is_in_quotes}
+use Rattle.rf_lexer.specs.Characters.{StandsIn, StopsAt}
 use Rattle.rf_lexer.specs.Gap.{is_in_line}
-use Rattle.rf_lexer.specs.Lexeme.{IsIdentifier, IsNumber, is_in_quotes}
+use Rattle.rf_lexer.specs.Lexeme.{IsNumber}
 use Rattle.rf_lexer.specs.Kind.{IsBigNumber, IsLongest, IsLongName}
 use Rattle.rf_lexer.specs.Spelling.{mark_spelling}
 use Rattle.rf_lexer.specs.Fault.{IsCause}

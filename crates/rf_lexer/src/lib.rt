@@ -4,6 +4,7 @@
 mod character;
 mod error;
 mod keyword;
+mod laws;
 mod mark;
 mod names;
 mod numbers;
@@ -13,6 +14,7 @@ mod token;
 
 pub use error::LexError;
 pub use keyword::Keyword;
+pub use laws::keywords_law;
 pub use mark::Mark;
 pub use reading::lex;
 pub use token::{Kind, Token};

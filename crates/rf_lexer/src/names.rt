@@ -1,7 +1,7 @@
 //! Names: identifiers, keywords among them, and what stands between quotes.
 ghost use Rattle.std.specs.Prelude.{◌≡◌, ◌≤◌, ◌∷◌, length, IfOk, IfErr, IsTrue};
 ghost use Rattle.std.specs.Str.{chars};
-ghost use Rattle.rf_lexer.specs.Lexeme.{is_in_quotes, starts_identifier};
+ghost use Rattle.rf_text.specs.Identifier.{is_in_quotes, starts_identifier};
 ghost use Rattle.rf_lexer.specs.Scan.{Fails, IsIdentifierTo, IsSpan, Takes};
 
 use crate::character::{CharSet, before, behind_all, first_char};
@@ -11,13 +11,6 @@ use rf_text::Text;
 use std::alloc::Global;
 
 const MOST_BYTES: usize = 255;
-
-/// Whether an identifier may begin with the character.
-pub fn starts_identifier(c: char) -> bool
-    ensures { result ≡ starts_identifier c }
-{
-    unicode_ident::is_xid_start(c) || c == '_'
-}
 
 // The kind of the identifier that stands in the text before the rest.
 fn identifier_kind(alloc: Global, place: u64, text: &str, rest: &str) -> Result<Kind, LexError>

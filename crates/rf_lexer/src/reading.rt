@@ -2,7 +2,7 @@ ghost use Rattle.std.specs.Prelude.{◌≡◌, ◌≢◌, ◌<◌, ◌⊎◌, �
 ghost use Rattle.std.specs.Char.{is_ascii_digit};
 ghost use Rattle.std.specs.Str.{chars};
 ghost use Rattle.rf_lexer.specs.Gap.{BeginsNoGap};
-ghost use Rattle.rf_lexer.specs.Lexeme.{starts_identifier};
+ghost use Rattle.rf_text.specs.Identifier.{starts_identifier};
 ghost use Rattle.rf_lexer.specs.Spelling.{mark_spelling};
 ghost use Rattle.rf_lexer.specs.Scan.{Fails, Takes};
 ghost use Rattle.rf_lexer.specs.Tokens.{Lexemes};
@@ -11,10 +11,11 @@ ghost use Rattle.rf_lexer.specs.declared.token.Token.{Token};
 
 use crate::character::{first_char, size};
 use crate::mark::first_mark;
-use crate::names::{first_identifier, first_quoted, starts_identifier};
+use crate::names::{first_identifier, first_quoted};
 use crate::numbers::first_number;
 use crate::space::behind_gap;
 use crate::{Kind, LexError, Token};
+use rf_text::starts_identifier;
 use std::alloc::Global;
 
 fn begins_with_star(text: &str) -> bool
