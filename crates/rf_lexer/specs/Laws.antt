@@ -6,4 +6,5 @@ use Rattle.rf_lexer.specs.declared.keyword.Keyword.{Keyword}
 
 -- a word is a keyword exactly where it is how some keyword is written
 abbrev pub KeywordsAreTold : Type 0
-KeywordsAreTold = (word : List ℕ) → IsTrue (is_keyword word) ↔ ((k : Keyword) × (word ≡ keyword_spelling k))
+KeywordsAreTold =
+    (word : List ℕ) → IsTrue (is_keyword word) ↔ ((k : Keyword) × (word ≡ keyword_spelling k))

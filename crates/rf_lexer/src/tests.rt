@@ -123,6 +123,65 @@ fn names_the_first_fault(rt: HostRuntime) -> Result<(), Fail> {
     Ok(())
 }
 
+// So many times this piece, and then another one.
+fn repeated(alloc: Global, piece: &str, times: usize, end: &str) -> Result<Text, AllocError> {
+    let mut out = Text::new(alloc);
+    for _ in 0..times {
+        out.push_str(piece)?;
+    }
+    out.push_str(end)?;
+    Ok(out)
+}
+
+#[test]
+fn reads_or_refuses_odd_texts(rt: HostRuntime) -> Result<(), Fail> {
+    let alloc = rt.alloc();
+    let digits = repeated(alloc, "7", 100, "")?;
+    let zeros = repeated(alloc, "0", 100, "")?;
+    let ends_at_256 = repeated(alloc, "a", 254, "\u{e9}")?;
+    let goes_past_255 = repeated(alloc, "a", 253, "\u{4e2d}")?;
+    let long_quoted = repeated(alloc, "'", 1, ends_at_256.as_str())?;
+    let long_quoted = repeated(alloc, long_quoted.as_str(), 1, "'")?;
+    let ends_at_255 = repeated(alloc, "a", 253, "\u{e9}")?;
+    let told_255 = repeated(alloc, "name ", 1, ends_at_255.as_str())?;
+    let told_255 = repeated(alloc, told_255.as_str(), 1, "|")?;
+    let told_zeros = repeated(alloc, "number 0|", 100, "")?;
+    for (text, want) in [
+        ("class A /*", Err(LexError::OpenComment(8))),
+        ("/*", Err(LexError::OpenComment(0))),
+        ("/*/", Err(LexError::OpenComment(0))),
+        ("/", Err(LexError::BadCharacter(0))),
+        ("'a'\n'\n'", Err(LexError::OpenQuote(4))),
+        ("'\r\n'", Err(LexError::OpenQuote(0))),
+        ("class class", Ok("class|class|")),
+        ("'class'", Ok("quoted class|")),
+        (
+            "node exists equals",
+            Ok("name node|name exists|name equals|"),
+        ),
+        ("1a", Ok("number 1|name a|")),
+        ("01", Ok("number 0|number 1|")),
+        (zeros.as_str(), Ok(told_zeros.as_str())),
+        (digits.as_str(), Err(LexError::BigNumber(0))),
+        ("a<-b", Err(LexError::BadCharacter(1))),
+        ("a<->b", Ok("name a|<->|name b|")),
+        ("a\u{b7}\u{301}b", Ok("name a\u{b7}\u{301}b|")),
+        ("1\u{b7}", Err(LexError::BadCharacter(1))),
+        ("\u{feff}class", Err(LexError::BadCharacter(0))),
+        ("'\u{feff}'", Ok("quoted \u{feff}|")),
+        (ends_at_255.as_str(), Ok(told_255.as_str())),
+        (ends_at_256.as_str(), Err(LexError::LongName(0))),
+        (goes_past_255.as_str(), Err(LexError::LongName(0))),
+        (long_quoted.as_str(), Err(LexError::LongName(0))),
+    ] {
+        match want {
+            Ok(tokens) => assert_eq!(rt; told(alloc, text)?.as_str(), tokens, "{text}"),
+            Err(fault) => assert_eq!(rt; told(alloc, text).err(), Some(fault), "{text}"),
+        }
+    }
+    Ok(())
+}
+
 // So many letters behind this text.
 fn lengthened(alloc: Global, text: &str, letters: usize) -> Result<Text, AllocError> {
     let mut out = Text::from_str(alloc, text)?;

@@ -75,8 +75,10 @@ fn split_bare(bytes: &[u8]) -> (&[u8], &[u8])
 pub fn split_written(bytes: &[u8]) -> Option<(&[u8], &[u8])>
     ensures joined { IfSome result (λ p. bytes.now ≡ p.0.now ++ p.1.now) }
     ensures found { (name tail : List ℕ) → IsWritten bytes.now name tail → IsSome result }
-    ensures whole { (name tail : List ℕ) → IsWritten bytes.now name tail → IfSome result (λ p. p.0.now ≡ written_name name) }
-    ensures tail { (name tail : List ℕ) → IsWritten bytes.now name tail → IfSome result (λ p. p.1.now ≡ tail) }
+    ensures whole { (name tail : List ℕ) → IsWritten bytes.now name tail →
+        IfSome result (λ p. p.0.now ≡ written_name name) }
+    ensures tail { (name tail : List ℕ) → IsWritten bytes.now name tail →
+        IfSome result (λ p. p.1.now ≡ tail) }
 {
     match bytes.strip_prefix(b"'") {
         Some(inside) => {
