@@ -3,3 +3,4 @@ pub mod Ends
 pub mod Lists
 pub mod Repeats
 pub mod Walks
+pub mod Cycles

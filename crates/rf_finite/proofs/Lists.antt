@@ -1,9 +1,11 @@
 -- Lemmas on tests over lists.
-use Rattle.std.proofs.Common.{◌≡◌, ℕ, suc, ◌+◌, ◌<◌, Bool, true, false, ◌||◌, List, [], ◌∷◌, length, get_or, take, drop, refl, sym, ap, ◌∙◌, inl, inr, true≢false, add-one, drop-cons}
+use Rattle.std.proofs.Common.{◌≡◌, ℕ, suc, ◌+◌, ◌≤◌, ◌<◌, Bool, true, false, ◌||◌, List, [], ◌∷◌, length, get_or, take, drop, refl, sym, ap, ◌∙◌, inl, inr, arith, true≢false, add-one, drop-cons}
 use Rattle.std.proofs.lemmas.Bool.{and_parts, or_cases, or_left, or_right, cases_Bool, both_ways}
+use Rattle.std.proofs.lemmas.List.{length-take-le}
 use Rattle.std.proofs.lemmas.List.Folds.{list_any_more}
+use Rattle.std.proofs.lemmas.List.Sums.{count_by-le-length}
 use Rattle.std.specs.List.{list_any, list_all}
-use Rattle.std.specs.Prelude.{filter}
+use Rattle.std.specs.Prelude.{count_by, filter}
 
 module _ {X : Type 0} where
   -- where all pass one test and some passes another, one passes both
@@ -59,3 +61,7 @@ module _ {X : Type 0} where
       without_first : (a b : Bool) → a ≡ false → (a || b) ≡ b
       without_first true b q = absurd (true≢false q)
       without_first false b q = refl
+
+-- at most as many elements pass as were looked at
+pub count_by-take_le : {X : Type 0} (p : X → Bool) (xs : List X) (i : ℕ) → i ≤ length xs → count_by p (take i xs) ≤ i
+count_by-take_le p xs i l = let few = count_by-le-length p (take i xs) in let short = length-take-le i xs l in omega arith

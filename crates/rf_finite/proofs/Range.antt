@@ -217,6 +217,20 @@ sum_below-term (suc n) p f k l h = elim (below_or_last n k l) [
   | inr e ↦ (let here : p n ≡ true = subst (λ m. p m ≡ true) e h in rw (here, e) (omega arith))
 ]
 
+-- two of the terms sum to at most the whole
+pub sum_below-two_terms : (n : ℕ) (p : ℕ → Bool) (f : ℕ → ℕ) (j k : ℕ) → j < n → k < n → (j ≡ k → ⊥) → p j ≡ true → p k ≡ true → f j + f k ≤ sum_below n p f
+sum_below-two_terms zero p f j k lj lk ne hj hk = absurd (omega arith)
+sum_below-two_terms (suc n) p f j k lj lk ne hj hk = elim (below_or_last n j lj) [
+  | inl bj ↦ elim (below_or_last n k lk) [
+    | inl bk ↦ (let rest = sum_below-two_terms n p f j k bj bk ne hj hk in omega arith)
+    | inr ek ↦ (let rest = sum_below-term n p f j bj hj in let here : p n ≡ true = subst (λ m. p m ≡ true) ek hk in rw (here, ek) (omega arith))
+  ]
+  | inr ej ↦ elim (below_or_last n k lk) [
+    | inl bk ↦ (let rest = sum_below-term n p f k bk hk in let here : p n ≡ true = subst (λ m. p m ≡ true) ej hj in rw (here, ej) (omega arith))
+    | inr ek ↦ absurd (ne (ej ∙ sym ek))
+  ]
+]
+
 -- the first value is where the search meets it: none before, and one here
 pub first_below-at : {A : Type 0} (n : ℕ) (f : ℕ → Option A) (k : ℕ) (v : A) → k < n → first_below k f ≡ None → f k ≡ Some v → first_below n f ≡ Some v
 first_below-at zero f k v l none here = absurd (omega arith)

@@ -38,6 +38,20 @@ module _ (edge : ℕ → ℕ → Bool) (through : ℕ → Bool) where
   IsWalk-reverse n a [] b w = w
   IsWalk-reverse n a (c ∷ cs) b w = IsWalk-reverse_onto n c cs b [] a w.3 w.1 w.2 w.0
 
+  -- the last place before the end of a walk: where it begins, or one that a walk leads to
+  pub IsWalk-last : (n a : ℕ) (cs : List ℕ) (b : ℕ) → IsWalk edge through n a cs b
+      → (y : ℕ) × (edge y b ≡ true) × ((y ≡ a) ⊎ ((y < n) × (through y ≡ true) × IsReachable edge through n a y))
+  IsWalk-last n a [] b w = (a, w, inl refl)
+  IsWalk-last n a (c ∷ cs) b w =
+      let r = IsWalk-last n c cs b w.3 in (
+        r.0,
+        r.1,
+        elim r.2 [
+          | inl e ↦ inr (subst (λ y. y < n) (sym e) w.1, subst (λ y. through y ≡ true) (sym e) w.2, ([], subst (λ y. edge a y ≡ true) (sym e) w.0))
+          | inr t ↦ inr (t.0, t.1, (c ∷ t.2.0, (w.0, w.1, w.2, t.2.1)))
+        ],
+      )
+
   pub IsWalk-from_IsWalk_below : (m n a : ℕ) (cs : List ℕ) (b : ℕ) → m ≤ n → IsWalk edge through m a cs b → IsWalk edge through n a cs b
   IsWalk-from_IsWalk_below m n a [] b l w = w
   IsWalk-from_IsWalk_below m n a (c ∷ cs) b l w = let below = w.1 in (w.0, omega arith, w.2, IsWalk-from_IsWalk_below m n c cs b l w.3)
@@ -209,17 +223,22 @@ module _ (edge : ℕ → ℕ → Bool) (n : ℕ) where
   abbrev anywhere : ℕ → Bool
   anywhere _ = true
 
-  -- how many places can be reached falls along each edge where no walk leads back to its start
-  pub count_below-reachable_falls : ((x : ℕ) → x < n → IsReachable edge anywhere n x x → ⊥) → (x y : ℕ) → x < n → y < n → edge x y ≡ true
+  -- how many places can be reached falls along an edge to a place from which no walk leads back to it
+  pub count_below-reachable_falls_at : (x y : ℕ) → x < n → y < n → edge x y ≡ true → (IsReachable edge anywhere n y y → ⊥)
       → count_below n (walk_below edge anywhere n y) < count_below n (walk_below edge anywhere n x)
-  count_below-reachable_falls no_cycle x y lx ly e =
+  count_below-reachable_falls_at x y lx ly e no_way_back =
       let step = walk_below-from_edge edge anywhere n x y e in
       let both = count_below-apart n (walk_below edge anywhere n y) (λ z. eqb z y) (walk_below edge anywhere n x)
       (λ z l w. walk_below-trans edge anywhere n x y z ly refl step w)
       (λ z l q. subst (λ m. walk_below edge anywhere n x m ≡ true) (sym (eqb-true z y q)) step)
-      (λ z w q. no_cycle y ly (IsReachable-from_walk_below edge anywhere n y y (subst (λ m. walk_below edge anywhere n y m ≡ true) (eqb-true z y q) w))) in
+      (λ z w q. no_way_back (IsReachable-from_walk_below edge anywhere n y y (subst (λ m. walk_below edge anywhere n y m ≡ true) (eqb-true z y q) w))) in
       let one = count_below-positive n (λ z. eqb z y) y ly (eq-eqb y y refl) in
       omega arith
+
+  -- so it falls along each edge where no walk leads back to its start
+  pub count_below-reachable_falls : ((x : ℕ) → x < n → IsReachable edge anywhere n x x → ⊥) → (x y : ℕ) → x < n → y < n → edge x y ≡ true
+      → count_below n (walk_below edge anywhere n y) < count_below n (walk_below edge anywhere n x)
+  count_below-reachable_falls no_cycle x y lx ly e = count_below-reachable_falls_at x y lx ly e (no_cycle y ly)
 
   -- a rank that falls along each edge falls along each walk
   pub rank_falls-from_IsWalk : (rank : ℕ → ℕ) → ((x y : ℕ) → x < n → y < n → edge x y ≡ true → rank y < rank x)

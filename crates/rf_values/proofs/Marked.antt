@@ -1,18 +1,18 @@
 -- What the operations on four words do to the set that they stand for.
-use Rattle.std.proofs.Common.{Bool, rules, ◌≡◌, ℕ, zero, suc, ◌-◌, ◌*◌, ◌/◌, ◌%◌, ◌^◌, ◌<◌, ◌≤◌, true, false, ◌&&◌, ◌||◌, not, nat_eq, List, [], ◌∷◌, length, get_or, sym, refl, ap, ◌∙◌, inl, inr, arith, w64, min}
+use Rattle.std.proofs.Common.{Bool, rules, ◌≡◌, ℕ, zero, suc, ◌-◌, ◌*◌, ◌/◌, ◌%◌, ◌^◌, ◌<◌, ◌≤◌, true, false, ◌&&◌, ◌||◌, not, nat_eq, List, [], ◌∷◌, length, get_or, sym, refl, ap, ◌∙◌, inl, inr, arith, w64, min, max}
 use Rattle.std.specs.Prelude.{◌==◌, ◌↔◌, bit_and, bit_or}
 use Rattle.std.specs.Cmp.Lexicographic.{pointwise, bytes_decides}
 use Rattle.std.specs.List.{list_any}
 use Rattle.std.specs.Ordering.{nat_cmp, eq_by_cmp}
 use Rattle.std.specs.Cmp.{nat_cmp_total, unsigned_tied}
-use Rattle.std.specs.FinSet.{FinSet, items, contains-items, empty, insert, contains, intersection, difference, contains-empty, contains-insert, contains-intersection, contains-difference, same_set, nat_cmp-IsAntisymmetric}
+use Rattle.std.specs.FinSet.{FinSet, items, contains-items, empty, insert, contains, intersection, difference, union, contains-union, contains-empty, contains-insert, contains-intersection, contains-difference, same_set, nat_cmp-IsAntisymmetric}
 use Rattle.std.specs.Int.{bit_at, bit_not}
 use Rattle.std.proofs.Math.ListN.{set, length-set}
 use Rattle.std.proofs.lemmas.Bool.{cases_eq, cases_lt, eq-eqb, ne_eqb}
 use Rattle.std.proofs.lemmas.List.{get_or-set_same, get_or-set_other}
-use Rattle.std.proofs.lemmas.List.Elements.{All-set}
+use Rattle.std.proofs.lemmas.List.Elements.{All-from_recursion, All-set}
 use Rattle.std.proofs.lemmas.Nat.{or_lt}
-use Rattle.std.proofs.lemmas.Nat.Bits.{bit_at-zero, bit_at-lt, bit_at_and, bit_at_not, bit_at_set_same, bit_at_set_other, shr_and_one}
+use Rattle.std.proofs.lemmas.Nat.Bits.{bit_at-zero, bit_at-lt, bit_at_and, bit_at_or, bit_at_not, bit_at_set_same, bit_at_set_other, shr_and_one}
 use Rattle.rf_values.specs.Words.{AreWords, has_bit, marked, words_of}
 use Rattle.rf_values.specs.WordLemmas.{words_of-marked, contains-marked, contains-marked_past}
 
@@ -61,6 +61,17 @@ flip_bit zero p = refl
 flip_bit (suc zero) p = refl
 flip_bit (suc (suc m)) p = absurd (omega arith)
 
+max_bits : (m n : ℕ) → m < 2 → n < 2 → (max m n == 1) ≡ (m == 1 || n == 1)
+max_bits zero zero p q = refl
+max_bits zero (suc zero) p q = refl
+max_bits (suc zero) zero p q = refl
+max_bits (suc zero) (suc zero) p q = refl
+max_bits m (suc (suc n)) p q = absurd (omega arith)
+max_bits (suc (suc m)) n p q = absurd (omega arith)
+
+or_bit : (x y i : ℕ) → (bit_at (bit_or x y) i == 1) ≡ (bit_at x i == 1 || bit_at y i == 1)
+or_bit x y i = ap (λ m. m == 1) (bit_at_or x y i) ∙ max_bits (bit_at x i) (bit_at y i) (bit_at-lt x i) (bit_at-lt y i)
+
 and_bit : (x y i : ℕ) → (bit_at (bit_and x y) i == 1) ≡ (bit_at x i == 1 && bit_at y i == 1)
 and_bit x y i = ap (λ m. m == 1) (bit_at_and x y i) ∙ min_bits (bit_at x i) (bit_at y i) (bit_at-lt x i) (bit_at-lt y i)
 
@@ -79,6 +90,19 @@ marked-intersection a b = marked-same _ _ (λ c h.
     rw (contains-intersection nat_cmp_total (marked a) (marked b) c, first, second, word) bits)
     (λ c h. let first = contains-marked_past a c h in rw (contains-intersection nat_cmp_total (marked a) (marked b) c, first) refl)
 
+-- the words of either set
+pub marked-union : (a b : List ℕ) → marked (word_by_word bit_or a b) ≡ union (marked a) (marked b)
+marked-union a b = marked-same _ _ (λ c h.
+    let word = get_or-word_by_word bit_or a b (c / 64) (omega arith) in
+    let bits = or_bit (get_or a (c / 64) 0) (get_or b (c / 64) 0) (c % 64) in
+    let first = contains-marked a c h in
+    let second = contains-marked b c h in
+    rw (contains-union nat_cmp_total (marked a) (marked b) c, first, second, word) bits)
+    (λ c h.
+    let first = contains-marked_past a c h in
+    let second = contains-marked_past b c h in
+    rw (contains-union nat_cmp_total (marked a) (marked b) c, first, second) refl)
+
 -- the words of the one set without the other
 pub marked-difference : (a b : List ℕ) → AreWords b → marked (word_by_word (λ x y. bit_and x (bit_not w64 y)) a b) ≡ difference (marked a) (marked b)
 marked-difference a b are = marked-same _ _ (λ c h.
@@ -89,6 +113,16 @@ marked-difference a b are = marked-same _ _ (λ c h.
     let second = contains-marked b c h in
     rw (contains-difference nat_cmp_total (marked a) (marked b) c, first, second, word) bits)
     (λ c h. let first = contains-marked_past a c h in rw (contains-difference nat_cmp_total (marked a) (marked b) c, first) refl)
+
+pub AreWords-union : (a b : List ℕ) → AreWords a → AreWords b → AreWords (word_by_word bit_or a b)
+AreWords-union a b own other = record {
+  four = refl;
+  fit = All-from_recursion (λ word. word < 2 ^ 64) (word_by_word bit_or a b)
+      (fits 0 (omega arith), (fits 1 (omega arith), (fits 2 (omega arith), (fits 3 (omega arith), tt))));
+}
+  where
+    fits : (k : ℕ) → k < 4 → bit_or (get_or a k 0) (get_or b k 0) < 2 ^ 64
+    fits k h = or_lt 64 (get_or a k 0) (get_or b k 0) (own.fit k 0 (omega (arith, own.four))) (other.fit k 0 (omega (arith, other.four)))
 
 -- the word of c with its bit set
 abbrev word_with : List ℕ → ℕ → ℕ

@@ -92,6 +92,21 @@ impl ClassSet {
         }
     }
 
+    /// The classes that are in one of the two sets.
+    pub fn either(self, other: ClassSet) -> ClassSet
+        ensures classes { result ≡ set.union self other }
+        ensures members { (d : ℕ) → set.contains result d ≡ (set.contains self d || set.contains other d) }
+    {
+        ClassSet {
+            words: [
+                self.words[0] | other.words[0],
+                self.words[1] | other.words[1],
+                self.words[2] | other.words[2],
+                self.words[3] | other.words[3],
+            ],
+        }
+    }
+
     /// These but for those of the other set.
     pub fn without(self, other: ClassSet) -> ClassSet
         ensures classes { result ≡ set.difference self other }
@@ -140,6 +155,7 @@ mod tests {
         let high = ends.without(low);
         assert!(rt; !high.has(0) && !high.has(63) && high.has(64) && high.has(255));
         assert!(rt; ends.both(low).has(63) && !ends.both(low).has(64));
+        assert!(rt; high.either(low) == ends && !high.either(low).has(65));
         assert!(rt; high.both(low).is_empty() && !high.is_empty());
         assert!(rt; high == ClassSet::empty().adding(255).adding(64) && high != ends);
     }
