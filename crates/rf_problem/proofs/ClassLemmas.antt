@@ -12,9 +12,9 @@ use Rattle.rf_text.specs.Line.{IsLine, NoBreak}
 use Rattle.rf_text.specs.Name.{IsName, is_name_byte}
 use Rattle.rf_text.proofs.LineLemmas.{NoBreak-break, line_of}
 use Rattle.rf_text.proofs.NameLemmas.{NoBreak-name}
-use Rattle.rf_problem.specs.ClassLine.{DeclaresNext, IsClassLine, IsStuck, class_of}
+use Rattle.rf_problem.specs.ClassLine.{DeclaresNext, IsClassLine, IsStuck}
 use Rattle.rf_problem.specs.Text.{class_line}
-use Rattle.rf_problem.specs.Valid.{AreClasses}
+use Rattle.rf_problem.specs.Plain.{ArePlain, IsPlain, class_of}
 use Rattle.rf_problem.specs.declared.class.Class.{Class}
 
 -- the line of a class of this name, without its line feed
@@ -46,14 +46,22 @@ class_line-append c after =
 pub line_text-inj : (a b : List ℕ) → line_text a ≡ line_text b → a ≡ b
 line_text-inj a b e = let ends : a ++ codes "." ≡ b ++ codes "." = cc in append_cancel_right a b (codes ".") ends
 
+-- a class is its name, where it is plain
+pub IsPlain-class_of : (c : Class) → IsPlain c → c ≡ class_of c.name
+IsPlain-class_of c plain = λ i. record { name = c.name; is_abstract = plain.concrete i; supers = plain.extends_none i }
+
+pub class_of-IsPlain : (name : List ℕ) → IsName name → IsPlain (class_of name)
+class_of-IsPlain name named = record { named = named; concrete = refl; extends_none = refl }
+
 -- a class with others has a name
-pub last_named : (classes : List Class) (c : Class) → AreClasses (classes ++ c ∷ []) → IsName c.name
+pub last_named : (classes : List Class) (c : Class) → ArePlain (classes ++ c ∷ []) → IsName c.name
 last_named classes c declared =
     let last : get_or (classes ++ c ∷ []) (length classes) c ≡ c = get_or_push classes c c (length classes) refl in
-    rw last at (declared.named (length classes) c (omega (arith, length-append classes (c ∷ []))))
+    let plain = rw last at (declared.each (length classes) c (omega (arith, length-append classes (c ∷ [])))) in
+    plain.named
 
 -- a class with others has a name of its own
-pub last_apart : (classes : List Class) (c : Class) → AreClasses (classes ++ c ∷ []) → Any (λ d. d.name ≡ c.name) classes → ⊥
+pub last_apart : (classes : List Class) (c : Class) → ArePlain (classes ++ c ∷ []) → Any (λ d. d.name ≡ c.name) classes → ⊥
 last_apart classes c declared (k, x, within, here, same) =
     let apart = declared.apart k (length classes) x within (omega (arith, length-append classes (c ∷ []))) in
     let first : get_or (classes ++ c ∷ []) k x ≡ x = get_or_append_left classes (c ∷ []) x k within ∙ here in
@@ -61,12 +69,12 @@ last_apart classes c declared (k, x, within, here, same) =
     (rw (first, last) at apart) same
 
 -- the first of some classes are classes
-pub AreClasses-front : (xs ys : List Class) → AreClasses (xs ++ ys) → AreClasses xs
-AreClasses-front xs ys declared = record {
+pub ArePlain-front : (xs ys : List Class) → ArePlain (xs ++ ys) → ArePlain xs
+ArePlain-front xs ys declared = record {
   few = let few = declared.few in omega (arith, length-append xs ys);
-  named = λ k d within.
+  each = λ k d within.
       let first : get_or (xs ++ ys) k d ≡ get_or xs k d = get_or_append_left xs ys d k within in
-      rw first at (declared.named k d (omega (arith, length-append xs ys)));
+      rw first at (declared.each k d (omega (arith, length-append xs ys)));
   apart = λ i j d before within.
       let first : get_or (xs ++ ys) i d ≡ get_or xs i d = get_or_append_left xs ys d i (omega arith) in
       let second : get_or (xs ++ ys) j d ≡ get_or xs j d = get_or_append_left xs ys d j within in
@@ -74,12 +82,12 @@ AreClasses-front xs ys declared = record {
 }
 
 -- one more class, of a name that none has
-pub AreClasses-push :
-    (classes : List Class) (name : List ℕ) → AreClasses classes → length classes ≢ 256 → IsName name →
-    (Any (λ d. d.name ≡ name) classes → ⊥) → AreClasses (classes ++ class_of name ∷ [])
-AreClasses-push classes name declared room named free = record {
+pub ArePlain-push :
+    (classes : List Class) (name : List ℕ) → ArePlain classes → length classes ≢ 256 → IsName name →
+    (Any (λ d. d.name ≡ name) classes → ⊥) → ArePlain (classes ++ class_of name ∷ [])
+ArePlain-push classes name declared room named free = record {
   few = let few = declared.few in omega (arith, length-append classes (class_of name ∷ []));
-  named = All-push (λ c. IsName c.name) classes (class_of name) declared.named named;
+  each = All-push IsPlain classes (class_of name) declared.each (class_of-IsPlain name named);
   apart = all_pairs_push (λ c d. c.name ≢ d.name) classes (class_of name) declared.apart
       (λ k d within same. free (k, get_or classes k d, within, get_or_default classes k (get_or classes k d) d within, same));
 }
@@ -110,11 +118,11 @@ IsStuck-taken classes bytes line after name is own taken c rest declared e =
 
 -- the first line is that of one more class
 pub DeclaresNext-from :
-    (classes : List Class) (bytes line after name : List ℕ) → AreClasses classes → length classes ≢ 256 → IsLine bytes line after →
+    (classes : List Class) (bytes line after name : List ℕ) → ArePlain classes → length classes ≢ 256 → IsLine bytes line after →
     IsClassLine line name → (Any (λ d. d.name ≡ name) classes → ⊥) → DeclaresNext classes bytes name after
 DeclaresNext-from classes bytes line after name declared room is own free = record {
   joined = is.joined ∙ ap (λ text. text ++ 10 ∷ after) own.joined ∙ sym (class_line-append (class_of name) after);
-  declared = AreClasses-push classes name declared room own.named free;
+  declared = ArePlain-push classes name declared room own.named free;
 }
 
 -- what holds, holds where there is no value

@@ -1,5 +1,7 @@
-use Rattle.std.specs.Prelude.{◌≡◌, ◌<◌, ℕ, List, [], ◌∷◌, ◌++◌, codes, length}
-use Rattle.rf_problem.specs.Valid.{AreClasses}
+-- Texts of problems.
+use Rattle.std.specs.Prelude.{◌≡◌, ◌<◌, ℕ, List, [], ◌∷◌, ◌++◌, codes, length, All}
+use Rattle.rf_problem.specs.Plain.{ArePlain, IsPlain}
+use Rattle.rf_problem.specs.Valid.{named_objects}
 use Rattle.rf_problem.specs.declared.class.Class.{Class}
 use Rattle.rf_problem.specs.declared.problem.Problem.{Problem}
 
@@ -12,17 +14,23 @@ abbrev pub class_lines : List Class → List ℕ
 class_lines [] = []
 class_lines (c ∷ cs) = class_line c ++ class_lines cs
 
--- the bytes declare the classes of the problem, a line for each, and nothing else
-abbrev pub IsTextOf : Problem → List ℕ → Type 0
-IsTextOf p bytes = bytes ≡ class_lines p.classes
+-- the bytes declare the classes of the problem, a line for each, and it has nothing else but their new objects
+pub record IsTextOf (p : Problem) (bytes : List ℕ) : Type 0 where
+  pub lines : bytes ≡ class_lines p.classes
+  pub plain : All IsPlain p.classes
+  pub references : p.references ≡ []
+  pub predicates : p.predicates ≡ []
+  pub objects : named_objects p.objects ≡ []
+  pub assertions : p.assertions ≡ []
+  pub scopes : p.scopes ≡ []
 
 -- at this place begins the first line that doesn't declare one more class: what stands before it
 -- declares classes, something stands there, and no line there declares a class beside these
 pub record IsNotYet (bytes : List ℕ) (at : ℕ) : Type 0 where
   pub classes : List Class
   pub rest : List ℕ
-  pub declared : AreClasses classes
+  pub declared : ArePlain classes
   pub joined : bytes ≡ class_lines classes ++ rest
   pub place : at ≡ length (class_lines classes)
   pub more : 0 < length rest
-  pub stuck : (c : Class) (after : List ℕ) → AreClasses (classes ++ c ∷ []) → rest ≡ class_line c ++ after → ⊥
+  pub stuck : (c : Class) (after : List ℕ) → ArePlain (classes ++ c ∷ []) → rest ≡ class_line c ++ after → ⊥

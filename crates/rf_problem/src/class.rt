@@ -1,7 +1,11 @@
-use rf_text::Text;
+use rf_text::{Items, Text};
 
 /// A class. Its number is its place in the problem's list of classes, from 0.
-#[derive(Clone, Debug, Drop)]
+#[derive(Debug, Drop)]
 pub struct Class {
     pub name: Text,
+    /// Whether no node may have exactly this class.
+    pub is_abstract: bool,
+    /// The numbers of the classes that it extends directly, in the order of the text.
+    pub supers: Items<u32>,
 }

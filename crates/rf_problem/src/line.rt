@@ -1,6 +1,6 @@
 ghost use Rattle.std.specs.Prelude.{◌≡◌, ◌↔◌, IfSome, IfNone, IsTrue, Any};
-ghost use Rattle.rf_problem.specs.ClassLine.{IsClassLine, DeclaresNext, IsStuck};
-ghost use Rattle.rf_problem.specs.Valid.{AreClasses};
+ghost use Rattle.rf_problem.specs.ClassLine.{DeclaresNext, IsClassLine, IsStuck};
+ghost use Rattle.rf_problem.specs.Plain.{ArePlain};
 
 use crate::Class;
 use rf_text::{first_line, is_name};
@@ -31,7 +31,7 @@ fn is_taken(classes: &[Class], name: &str) -> bool
 /// The name of one more class beside these, which the first line declares, and the bytes behind that
 /// line; None where the first line declares none, or there is no room for one more.
 pub fn next_class<'a>(classes: &[Class], bytes: &'a [u8]) -> Option<(&'a str, &'a [u8])>
-    requires { AreClasses classes.now }
+    requires { ArePlain classes.now }
     ensures found { IfSome result (λ p. DeclaresNext classes.now bytes.now p.0.now p.1.now) }
     ensures none { IfNone result (IsStuck classes.now bytes.now) }
 {

@@ -1,16 +1,19 @@
+use rf_text::Text;
 use rf_values::Count;
 
 /// What an object is called.
-#[derive(Clone, Copy, Debug, PartialEq, Eq)]
+#[derive(Clone, Debug, Drop)]
 pub enum ObjectName {
+    Named(Text),
     /// `C::new`, the object that the new nodes of the class of this number come from.
     NewOf(u32),
 }
 
 /// An object of the input, which stands for as many nodes as its count admits. Its number is its
 /// place in the problem's list of objects, from 0.
-#[derive(Clone, Copy, Debug, PartialEq, Eq)]
+#[derive(Debug, Drop)]
 pub struct ObjectDecl {
     pub name: ObjectName,
+    /// Its count as declared, before assertions on `exists` and `equals`.
     pub count: Count,
 }

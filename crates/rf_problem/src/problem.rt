@@ -1,14 +1,22 @@
-ghost use Rattle.std.specs.Prelude.{length};
-ghost use Rattle.rf_problem.specs.Valid.{AreClasses, AreNewObjects};
+ghost use Rattle.rf_problem.specs.Valid.{AreAssertions, AreClasses, AreObjects, ArePredicates, AreReferences, AreScopes};
 
-use crate::{Class, ObjectDecl};
+use crate::{Assertion, Class, ObjectDecl, Predicate, Reference, Scope};
 use rf_text::Items;
 
-/// A problem: its classes, and its objects, one `C::new` for each class in their order.
+/// A problem: what is declared and stated, each number the place of what it stands for.
 #[derive(Debug, Drop)]
 pub struct Problem {
     pub classes: Items<Class>,
+    pub references: Items<Reference>,
+    pub predicates: Items<Predicate>,
+    /// The named objects, and behind them one `C::new` for each class that isn't abstract.
     pub objects: Items<ObjectDecl>,
-    ghost declared: { AreClasses classes },
-    ghost stocked: { AreNewObjects (length classes) objects },
+    pub assertions: Items<Assertion>,
+    pub scopes: Items<Scope>,
+    ghost classes_fit: { AreClasses classes },
+    ghost references_fit: { AreReferences classes references },
+    ghost predicates_fit: { ArePredicates classes references predicates },
+    ghost objects_fit: { AreObjects classes objects },
+    ghost assertions_fit: { AreAssertions classes references predicates objects assertions },
+    ghost scopes_fit: { AreScopes classes scopes },
 }

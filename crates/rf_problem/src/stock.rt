@@ -1,7 +1,7 @@
-ghost use Rattle.std.specs.Prelude.{◌≡◌, IfOk};
-ghost use Rattle.rf_problem.specs.Valid.{AreNewObjects, new_object};
+ghost use Rattle.std.specs.Prelude.{◌≡◌, ◌≤◌, length, map, IfOk};
+ghost use Rattle.rf_problem.specs.Valid.{concrete_numbers, new_object};
 
-use crate::{ObjectDecl, ObjectName};
+use crate::{Class, ObjectDecl, ObjectName};
 use rf_values::Count;
 use std::alloc::{AllocError, Global};
 
@@ -14,13 +14,16 @@ fn new_object(class: u32) -> ObjectDecl
     }
 }
 
-/// The objects that the new nodes come from, one for each of so many classes.
-pub fn new_objects(alloc: Global, classes: u32) -> Result<Vec<ObjectDecl>, AllocError>
-    ensures { IfOk result (λ objects. AreNewObjects classes objects.items) }
+/// The objects that the new nodes come from, one for each of the classes that isn't abstract.
+pub fn new_objects(alloc: Global, classes: &[Class]) -> Result<Vec<ObjectDecl>, AllocError>
+    requires { length classes.now ≤ 256 }
+    ensures { IfOk result (λ objects. objects.items ≡ map new_object (concrete_numbers 0 classes.now)) }
 {
     let mut objects = Vec::new(alloc);
-    for class in 0..classes {
-        objects.push(new_object(class))?;
+    for (number, class) in classes.iter().enumerate() {
+        if !class.is_abstract {
+            objects.push(new_object(number as u32))?;
+        }
     }
     Ok(objects)
 }

@@ -1,5 +1,9 @@
 //! Texts, and the answers that they are to get.
 
+mod build;
+mod facts;
+mod order;
+
 use super::*;
 use rf_values::Count;
 use std::alloc::Global;
@@ -73,8 +77,10 @@ fn keeps_names_and_objects(rt: HostRuntime) -> Result<(), Fail> {
     assert_eq!(rt; problem.classes[1].name.as_str(), "Box");
     for (place, object) in problem.objects.iter().enumerate() {
         assert_eq!(rt; object.count, Count { lo: 0, hi: None });
-        let ObjectName::NewOf(class) = object.name;
-        assert_eq!(rt; class as usize, place);
+        match object.name {
+            ObjectName::NewOf(class) => assert_eq!(rt; class as usize, place),
+            ObjectName::Named(_) => assert!(rt; false),
+        }
     }
     Ok(())
 }

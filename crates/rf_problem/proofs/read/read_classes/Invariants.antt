@@ -1,11 +1,11 @@
 use Rattle.std.proofs.Common.{◌≡◌, ◌++◌, length}
 use Rattle.rf_problem.specs.Text.{class_lines}
-use Rattle.rf_problem.specs.Valid.{AreClasses}
+use Rattle.rf_problem.specs.Plain.{ArePlain}
 use Rattle.rf_problem.proofs.read.read_classes.Given as goal
 
 abbrev pub invariant-loop-rest : goal.invariant-loop-rest
 invariant-loop-rest l = record {
-  declared : AreClasses l.classes.items;
+  declared : ArePlain l.classes.items;
   joined : l.bytes ≡ class_lines l.classes.items ++ l.rest;
 }
 

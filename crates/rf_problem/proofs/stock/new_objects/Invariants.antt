@@ -1,5 +1,6 @@
-use Rattle.rf_problem.specs.Valid.{AreNewObjects}
+use Rattle.std.proofs.Common.{◌≡◌, map, take}
+use Rattle.rf_problem.specs.Valid.{concrete_numbers, new_object}
 use Rattle.rf_problem.proofs.stock.new_objects.Given as goal
 
-abbrev pub invariant-loop-class : goal.invariant-loop-class
-invariant-loop-class l = AreNewObjects l.class l.objects.items
+abbrev pub invariant-loop-number : goal.invariant-loop-number
+invariant-loop-number l = l.objects.items ≡ map new_object (concrete_numbers 0 (take l.number l.classes))

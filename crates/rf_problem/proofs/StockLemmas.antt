@@ -1,0 +1,101 @@
+-- The objects that new nodes come from, behind the named ones.
+use Rattle.std.proofs.Common.{◌≡◌, ◌∙◌, ℕ, zero, suc, ◌+◌, ◌-◌, ◌≤◌, ◌<◌, true, false, List, [], ◌∷◌, ◌++◌, map, length, take, drop, take_all, length-drop, get_or, add-one, refl, sym, ap, inl, inr, arith}
+use Rattle.std.proofs.Math.Seq.{drop-append_seam}
+use Rattle.std.proofs.lemmas.Bool.{cases_Bool}
+use Rattle.std.proofs.lemmas.List.{drop_all, drop_more}
+use Rattle.rf_problem.specs.Valid.{concrete_numbers, is_named, named_objects, new_object}
+use Rattle.rf_problem.specs.declared.class.Class.{Class}
+use Rattle.rf_problem.specs.declared.object.ObjectDecl.{ObjectDecl}
+use Rattle.rf_problem.proofs.FitLemmas.{named_objects-new}
+
+-- the objects are those that the new nodes of these classes come from, of which the first has number n
+abbrev pub AreStock : ℕ → List Class → List ObjectDecl → Type 0
+AreStock n classes objects = objects ≡ map new_object (concrete_numbers n classes)
+
+module _ (classes : List Class) (i : ℕ) (class : Class) (l : i < length classes) (at : class ≡ get_or classes i class) where
+  numbers-abstract : class.is_abstract ≡ true → concrete_numbers i (drop i classes) ≡ concrete_numbers (i + 1) (drop (i + 1) classes)
+  numbers-abstract is = rw (drop_more classes i class l, ← at, is, add-one) refl
+
+  numbers-concrete : class.is_abstract ≡ false → concrete_numbers i (drop i classes) ≡ i ∷ concrete_numbers (i + 1) (drop (i + 1) classes)
+  numbers-concrete is = rw (drop_more classes i class l, ← at, is, add-one) refl
+
+  -- an abstract class has none
+  pub AreStock-skip :
+      (objects : List ObjectDecl) → class.is_abstract ≡ true →
+      (AreStock i (drop i classes) objects → AreStock (i + 1) (drop (i + 1) classes) objects)
+      × (AreStock (i + 1) (drop (i + 1) classes) objects → AreStock i (drop i classes) objects)
+  AreStock-skip objects is =
+      let same = ap (map new_object) (numbers-abstract is) in (λ h. h ∙ same, λ h. h ∙ sym same)
+
+  -- any other has one
+  pub AreStock-next :
+      (objects : List ObjectDecl) (first : ObjectDecl) (behind : List ObjectDecl) → class.is_abstract ≡ false → objects ≡ first ∷ behind →
+      first ≡ new_object i →
+      (AreStock i (drop i classes) objects → AreStock (i + 1) (drop (i + 1) classes) behind)
+      × (AreStock (i + 1) (drop (i + 1) classes) behind → AreStock i (drop i classes) objects)
+  AreStock-next objects first behind is split new =
+      let all : map new_object (concrete_numbers i (drop i classes)) ≡ new_object i ∷ map new_object (concrete_numbers (i + 1) (drop (i + 1) classes)) =
+      ap (map new_object) (numbers-concrete is) in
+      (λ h. cc, λ h. cc)
+
+  pub AreStock-not_first :
+      (objects : List ObjectDecl) (first : ObjectDecl) (behind : List ObjectDecl) → class.is_abstract ≡ false → objects ≡ first ∷ behind →
+      (first ≡ new_object i → ⊥) → AreStock i (drop i classes) objects → ⊥
+  AreStock-not_first objects first behind is split other h =
+      let all : map new_object (concrete_numbers i (drop i classes)) ≡ new_object i ∷ map new_object (concrete_numbers (i + 1) (drop (i + 1) classes)) =
+      ap (map new_object) (numbers-concrete is) in
+      other cc
+
+  pub AreStock-not_empty : (objects : List ObjectDecl) → class.is_abstract ≡ false → objects ≡ [] → AreStock i (drop i classes) objects → ⊥
+  AreStock-not_empty objects is none h =
+      let all : map new_object (concrete_numbers i (drop i classes)) ≡ new_object i ∷ map new_object (concrete_numbers (i + 1) (drop (i + 1) classes)) =
+      ap (map new_object) (numbers-concrete is) in
+      let clash : [] ≡ new_object i ∷ map new_object (concrete_numbers (i + 1) (drop (i + 1) classes)) = cc in cc
+
+-- where the classes end nothing is left
+pub AreStock-end :
+    (classes : List Class) (i : ℕ) (objects : List ObjectDecl) → length classes ≤ i →
+    (AreStock i (drop i classes) objects → objects ≡ []) × (objects ≡ [] → AreStock i (drop i classes) objects)
+AreStock-end classes i objects past =
+    let none : map new_object (concrete_numbers i (drop i classes)) ≡ [] = ap (λ cs. map new_object (concrete_numbers i cs)) (drop_all i classes past) in
+    (λ h. h ∙ none, λ h. h ∙ sym none)
+
+-- dropping m objects drops at most m named ones
+length-named_objects_drop : (m : ℕ) (objects : List ObjectDecl) → length (named_objects objects) ≤ m + length (named_objects (drop m objects))
+length-named_objects_drop zero objects = omega arith
+length-named_objects_drop (suc m) [] = omega arith
+length-named_objects_drop (suc m) (o ∷ objects) =
+    let rest = length-named_objects_drop m objects in
+    elim (cases_Bool (is_named o.name)) [ inl e ↦ rw e (omega arith) | inr e ↦ rw e (omega arith) ]
+
+-- as many objects as are named are dropped, and new ones alone are left
+stocked-from_drop :
+    (objects : List ObjectDecl) (numbers : List ℕ) → drop (length (named_objects objects)) objects ≡ map new_object numbers →
+    objects ≡ named_objects objects ++ map new_object numbers
+stocked-from_drop [] numbers h = h
+stocked-from_drop (o ∷ objects) numbers h = elim (cases_Bool (is_named o.name)) [
+  | inl e ↦ rw e (ap (λ rest. o ∷ rest) (stocked-from_drop objects numbers (rw e at h)))
+  | inr e ↦ rw e (unnamed (named_objects objects) refl (rw e at h))
+]
+  where
+    unnamed : (named : List ObjectDecl) → named ≡ named_objects objects → drop (length named) (o ∷ objects) ≡ map new_object numbers →
+        o ∷ objects ≡ named ++ map new_object numbers
+    unnamed [] is left = left
+    unnamed (q ∷ named) is left =
+        let few = length-named_objects_drop (length named) objects in
+        let none : named_objects (drop (length named) objects) ≡ [] = ap named_objects left ∙ named_objects-new numbers in
+        let none_long : length (named_objects (drop (length named) objects)) ≡ 0 = ap length none in
+        let long : suc (length named) ≡ length (named_objects objects) = ap length is in
+        absurd (omega arith)
+
+-- the new objects stand behind the named ones exactly where they are all that follows as many objects as are named
+pub stocked :
+    (objects : List ObjectDecl) (numbers : List ℕ) (n : ℕ) → n ≡ length (named_objects objects) →
+    (take (length objects - n) (drop n objects) ≡ map new_object numbers → objects ≡ named_objects objects ++ map new_object numbers)
+    × (objects ≡ named_objects objects ++ map new_object numbers → take (length objects - n) (drop n objects) ≡ map new_object numbers)
+stocked objects numbers n is =
+    let all : take (length objects - n) (drop n objects) ≡ drop n objects = take_all (length objects - n) (drop n objects) (let short = length-drop n objects in omega arith) in (
+      λ h. stocked-from_drop objects numbers (ap (λ k. drop k objects) (sym is) ∙ sym all ∙ h),
+      λ h. all ∙ ap (drop n) h ∙ ap (λ k. drop k (named_objects objects ++ map new_object numbers)) is
+          ∙ drop-append_seam (named_objects objects) (map new_object numbers),
+    )

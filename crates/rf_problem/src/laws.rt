@@ -1,0 +1,14 @@
+//! What holds of problems, each law as the contract of a function that does nothing.
+
+ghost use Rattle.rf_problem.specs.Laws.{BelowIsComputed, DepthOfAllIsEnough, DepthPastRankIsEnough};
+
+/// A class is below another exactly where the computed test says so.
+pub fn below_law()
+    ensures { BelowIsComputed }
+{}
+
+/// No more depth than there are predicates is needed to say whether one holds.
+pub fn depth_law()
+    ensures past_rank { DepthPastRankIsEnough }
+    ensures of_all { DepthOfAllIsEnough }
+{}

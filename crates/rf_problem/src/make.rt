@@ -1,0 +1,88 @@
+//! Problems made of their parts.
+
+ghost use Rattle.std.specs.Prelude.{◌≡◌, ◌↔◌, IfNone, IfSome, IsTrue};
+ghost use Rattle.rf_problem.specs.Made.{AreParts};
+
+mod apart;
+mod assertions;
+mod classes;
+mod counts;
+mod cycles;
+mod literals;
+mod objects;
+mod predicates;
+mod references;
+mod scopes;
+mod symbols;
+
+use crate::{Assertion, Class, ObjectDecl, Predicate, Problem, Reference, Scope};
+use assertions::are_assertions;
+use classes::are_classes;
+use objects::are_objects;
+use predicates::are_predicates;
+use references::are_references;
+use rf_text::Items;
+use scopes::are_scopes;
+
+fn are_parts(
+    classes: &[Class],
+    references: &[Reference],
+    predicates: &[Predicate],
+    objects: &[ObjectDecl],
+    assertions: &[Assertion],
+    scopes: &[Scope],
+) -> bool
+    ensures { IsTrue result ↔ AreParts classes.now references.now predicates.now objects.now assertions.now scopes.now }
+{
+    if !are_classes(classes) || !are_references(classes, references) {
+        return false;
+    }
+    if !are_predicates(classes, references, predicates) || !are_objects(classes, objects) {
+        return false;
+    }
+    are_assertions(classes, references, predicates, objects, assertions)
+        && are_scopes(classes, scopes)
+}
+
+impl Problem {
+    /// The problem of these parts, or None where they aren't what the parts of every problem are. It
+    /// takes no memory. Names are compared pair by pair.
+    pub fn new(
+        classes: Vec<Class>,
+        references: Vec<Reference>,
+        predicates: Vec<Predicate>,
+        objects: Vec<ObjectDecl>,
+        assertions: Vec<Assertion>,
+        scopes: Vec<Scope>,
+    ) -> Option<Problem>
+        ensures classes { IfSome result (λ p. p.classes ≡ classes.items) }
+        ensures references { IfSome result (λ p. p.references ≡ references.items) }
+        ensures predicates { IfSome result (λ p. p.predicates ≡ predicates.items) }
+        ensures objects { IfSome result (λ p. p.objects ≡ objects.items) }
+        ensures assertions { IfSome result (λ p. p.assertions ≡ assertions.items) }
+        ensures scopes { IfSome result (λ p. p.scopes ≡ scopes.items) }
+        ensures refused { IfNone result (AreParts classes.items references.items predicates.items objects.items assertions.items scopes.items → ⊥) }
+    {
+        if !are_parts(
+            &classes,
+            &references,
+            &predicates,
+            &objects,
+            &assertions,
+            &scopes,
+        ) {
+            return None;
+        }
+        Some(Problem {
+            classes: Items::from_vec(classes),
+            references: Items::from_vec(references),
+            predicates: Items::from_vec(predicates),
+            objects: Items::from_vec(objects),
+            assertions: Items::from_vec(assertions),
+            scopes: Items::from_vec(scopes),
+        })
+    }
+}
+
+#[cfg(test)]
+mod tests;
