@@ -1,16 +1,21 @@
 -- The bytes of a graph's document have one reading, line by line.
-use Rattle.std.proofs.Common.{◌≡◌, ◌≢◌, ◌∙◌, ℕ, suc, ◌+◌, ◌<◌, ◌≤◌, List, [], ◌∷◌, ◌++◌, length, map, take, get_or, refl, sym, ap, subst, arith, append_assoc, codes, All, ◌⊎◌, inl, inr, length-append}
-use Rattle.std.proofs.lemmas.List.{append-nil, length-map, map-append, take_all, take_more}
+use Rattle.std.proofs.Common.{◌≡◌, ◌≢◌, ◌∙◌, ℕ, suc, ◌+◌, ◌<◌, ◌≤◌, ◌^◌, List, [], ◌∷◌, ◌++◌, length, map, take, get_or, refl, sym, ap, subst, arith, append_assoc, codes, All, ◌⊎◌, inl, inr, length-append}
+use Rattle.std.specs.Prelude.{AllPairs, Contains}
+use Rattle.std.proofs.Math.ListN.{get_or-append}
+use Rattle.std.proofs.Math.Seq.{get_or-append_seam}
+use Rattle.std.proofs.lemmas.List.{append-nil, length-map, take_all, take_more}
 use Rattle.std.proofs.lemmas.List.Elements.{All-nil, All-cons, All-head, All-tail, All-append, All-map, All-weaker, All-same}
-use Rattle.rf_text.specs.Line.{IsLine, NoBreak, joined_lines}
-use Rattle.rf_text.proofs.LineLemmas.{NoBreak-break, one_line, joined_lines-append}
+use Rattle.rf_text.specs.Line.{NoBreak, joined_lines}
+use Rattle.rf_text.proofs.LineLemmas.{one_line, joined_lines-append}
 use Rattle.rf_problem.specs.declared.problem.Problem.{Problem}
+use Rattle.rf_graph.specs.declared.graph.Edge.{Edge}
 use Rattle.rf_graph.specs.declared.graph.Graph.{Graph}
 use Rattle.rf_graph.specs.declared.graph.Node.{Node}
 use Rattle.rf_graph.specs.BadLine.{Begins, IsBadLine}
-use Rattle.rf_graph.specs.Document.{IsDocument, document, graph_lines, node_line}
-use Rattle.rf_graph.specs.Fits.{Fits, FitsNode}
-use Rattle.rf_graph.proofs.NodeLines.{NoBreak-end, NoBreak-head, NoBreak-node, end_not_node, one_node}
+use Rattle.rf_graph.specs.Document.{IsDocument, document, edge_line, graph_lines, node_line}
+use Rattle.rf_graph.specs.Graph.{Fits, FitsEdge, FitsNode}
+use Rattle.rf_graph.proofs.Grown.{lines-push}
+use Rattle.rf_graph.proofs.Lines.{NoBreak-edge, NoBreak-end, NoBreak-head, NoBreak-node, end_not_edge, end_not_node, node_not_edge, one_edge, one_node}
 
 All-front : {X : Type 0} (P : X → Type 0) → (xs ys : List X) → All P (xs ++ ys) → All P xs
 All-front P [] ys all = All-nil P
@@ -54,262 +59,390 @@ split_all (x ∷ xs) (y ∷ ys) r nx ny e =
     let others : ys ≡ xs ++ ih.0 = ih.1 in
     (ih.0, cc, ih.2)
 
--- the lines of a document as far as these nodes
-abbrev pub front_lines : Problem → List Node → List (List ℕ)
-front_lines p nodes = codes "graph 1" ∷ map (node_line p) nodes
+-- the lines of a document as far as these nodes and edges
+abbrev pub front_lines : Problem → List Node → List Edge → List (List ℕ)
+front_lines p nodes edges = codes "graph 1" ∷ (map (node_line p) nodes ++ map (edge_line p) edges)
 
-NoBreak-front : (p : Problem) (nodes : List Node) → All (FitsNode p) nodes → All NoBreak (front_lines p nodes)
-NoBreak-front p nodes fits =
-    All-cons NoBreak (codes "graph 1") (map (node_line p) nodes) NoBreak-head
-    (All-map NoBreak (node_line p) nodes (All-weaker (FitsNode p) (λ n. NoBreak (node_line p n)) (NoBreak-node p) nodes fits))
+NoBreak-nodes : (p : Problem) (nodes : List Node) → All (FitsNode p) nodes → All NoBreak (map (node_line p) nodes)
+NoBreak-nodes p nodes fits =
+    All-map NoBreak (node_line p) nodes (All-weaker (FitsNode p) (λ n. NoBreak (node_line p n)) (NoBreak-node p) nodes fits)
+
+NoBreak-edges : (p : Problem) (many : ℕ) (edges : List Edge) → All (FitsEdge p many) edges → All NoBreak (map (edge_line p) edges)
+NoBreak-edges p many edges fits =
+    All-map NoBreak (edge_line p) edges (All-weaker (FitsEdge p many) (λ e. NoBreak (edge_line p e)) (NoBreak-edge p many) edges fits)
+
+NoBreak-front : (p : Problem) (many : ℕ) (nodes : List Node) (edges : List Edge) → All (FitsNode p) nodes → All (FitsEdge p many) edges → All NoBreak (front_lines p nodes edges)
+NoBreak-front p many nodes edges fn fe =
+    All-cons NoBreak (codes "graph 1") (map (node_line p) nodes ++ map (edge_line p) edges) NoBreak-head
+    (All-append NoBreak (map (node_line p) nodes) (map (edge_line p) edges) (NoBreak-nodes p nodes fn) (NoBreak-edges p many edges fe))
 
 NoBreak-graph : (p : Problem) (g : Graph) → Fits p g → All NoBreak (graph_lines p g)
 NoBreak-graph p g fits =
-    All-append NoBreak (front_lines p g.nodes) (codes "end" ∷ []) (NoBreak-front p g.nodes fits) (All-cons NoBreak (codes "end") [] NoBreak-end (All-nil NoBreak))
+    let last = All-append NoBreak (map (edge_line p) g.edges) (codes "end" ∷ []) (NoBreak-edges p (length g.nodes) g.edges fits.edges) (All-cons NoBreak (codes "end") [] NoBreak-end (All-nil NoBreak)) in
+    All-cons NoBreak (codes "graph 1") (map (node_line p) g.nodes ++ (map (edge_line p) g.edges ++ codes "end" ∷ [])) NoBreak-head
+    (All-append NoBreak (map (node_line p) g.nodes) (map (edge_line p) g.edges ++ codes "end" ∷ []) (NoBreak-nodes p g.nodes fits.nodes) last)
 
--- behind the lines of these nodes stands the end, or the line of one more
-next_line :
-    (p : Problem) (gs nodes : List Node) (line : List ℕ) (more : List (List ℕ)) → All (FitsNode p) gs →
-    map (node_line p) gs ++ codes "end" ∷ [] ≡ map (node_line p) nodes ++ line ∷ more →
-    ((line ≡ codes "end") × (more ≡ [])) ⊎ ((n : Node) × FitsNode p n × (line ≡ node_line p n))
-next_line p [] [] line more fits e = inl (cc, cc)
-next_line p [] (n ∷ nodes) line more fits e = let same : codes "end" ≡ node_line p n = cc in absurd (end_not_node p n same)
-next_line p (g ∷ gs) [] line more fits e = inr (g, All-head (FitsNode p) g gs fits, cc)
-next_line p (g ∷ gs) (n ∷ nodes) line more fits e =
-    let tails : map (node_line p) gs ++ codes "end" ∷ [] ≡ map (node_line p) nodes ++ line ∷ more = cc in
-    next_line p gs nodes line more (All-tail (FitsNode p) g gs fits) tails
+-- lines of elements, behind which no further one stands, begin with those of others only where these are their first
+module _ {X : Type 0} (line_of : X → List ℕ) (P : X → Type 0) (one : (x y : X) → P x → P y → line_of x ≡ line_of y → x ≡ y) where
+  pub same_front :
+      (gs xs : List X) (t u : List (List ℕ)) → All P gs → All P xs → ((x : X) (ls : List (List ℕ)) → t ≡ line_of x ∷ ls → ⊥) →
+      map line_of gs ++ t ≡ map line_of xs ++ u → (ms : List X) × (gs ≡ xs ++ ms) × (map line_of ms ++ t ≡ u)
+  same_front gs [] t u fg fx none e = (gs, refl, e)
+  same_front [] (x ∷ xs) t u fg fx none e = absurd (none x (map line_of xs ++ u) e)
+  same_front (g ∷ gs) (x ∷ xs) t u fg fx none e =
+      let heads : line_of g ≡ line_of x = cc in
+      let tails : map line_of gs ++ t ≡ map line_of xs ++ u = cc in
+      let ih = same_front gs xs t u (All-tail P g gs fg) (All-tail P x xs fx) none tails in
+      let first : g ≡ x = one g x (All-head P g gs fg) (All-head P x xs fx) heads in
+      let others : gs ≡ xs ++ ih.0 = ih.1 in
+      (ih.0, cc (first, others), ih.2)
 
--- and something does
-never_over : (p : Problem) (gs nodes : List Node) → map (node_line p) gs ++ codes "end" ∷ [] ≡ map (node_line p) nodes ++ [] → ⊥
-never_over p [] [] e = cc
-never_over p [] (n ∷ nodes) e = let same : codes "end" ≡ node_line p n = cc in end_not_node p n same
-never_over p (g ∷ gs) [] e = cc
-never_over p (g ∷ gs) (n ∷ nodes) e =
-    let tails : map (node_line p) gs ++ codes "end" ∷ [] ≡ map (node_line p) nodes ++ [] = cc in
-    never_over p gs nodes tails
+-- no line of a node stands among those of edges and the end
+no_more_nodes : (p : Problem) (edges : List Edge) (n : Node) (ls : List (List ℕ)) → map (edge_line p) edges ++ codes "end" ∷ [] ≡ node_line p n ∷ ls → ⊥
+no_more_nodes p [] n ls e = let same : codes "end" ≡ node_line p n = cc in end_not_node p n same
+no_more_nodes p (f ∷ edges) n ls e = let same : edge_line p f ≡ node_line p n = cc in node_not_edge p n f (sym same)
 
--- the rest begins with a line that may stand behind these of nodes: an end, of whose rest this holds, or one more node's
-pub record IsNext (p : Problem) (rest : List ℕ) (Over : List ℕ → Type 0) : Type 0 where
+no_more_edges : (p : Problem) (f : Edge) (ls : List (List ℕ)) → codes "end" ∷ [] ≡ edge_line p f ∷ ls → ⊥
+no_more_edges p f ls e = let same : codes "end" ≡ edge_line p f = cc in end_not_edge p f same
+
+-- of edges that differ each is none of those before it
+differs : (edges : List Edge) (f : Edge) (fs : List Edge) → AllPairs (λ x y. x ≢ y) (edges ++ f ∷ fs) → Contains edges f → ⊥
+differs edges f fs distinct there =
+    let before = there.1 in
+    distinct there.0 (length edges) f before (omega (arith, length-append edges (f ∷ fs)))
+    (get_or-append edges (f ∷ fs) f there.0 before ∙ there.2 ∙ sym (get_or-append_seam edges f fs f))
+
+-- what may stand behind the lines of these nodes and edges: the end, of whose rest this holds, one more node where there is no edge, or
+-- one more edge
+abbrev pub IsKind : Problem → List Node → List Edge → List ℕ → Type 0 → Type 0
+IsKind p nodes edges line Over =
+    ((line ≡ codes "end") × Over) ⊎
+    (((n : Node) × FitsNode p n × (edges ≡ []) × (line ≡ node_line p n)) ⊎
+    ((e : Edge) × FitsEdge p (length nodes) e × (Contains edges e → ⊥) × (line ≡ edge_line p e)))
+
+-- lines begin with such a one
+abbrev pub IsTail : Problem → List Node → List Edge → List (List ℕ) → Type 0
+IsTail p nodes edges u = (line : List ℕ) × (more : List (List ℕ)) × (u ≡ line ∷ more) × IsKind p nodes edges line (more ≡ [])
+
+behind_edges :
+    (p : Problem) (nodes : List Node) (edges es : List Edge) (u : List (List ℕ)) → All (FitsEdge p (length nodes)) (edges ++ es) →
+    AllPairs (λ x y. x ≢ y) (edges ++ es) → map (edge_line p) es ++ codes "end" ∷ [] ≡ u → IsTail p nodes edges u
+behind_edges p nodes edges [] u fits distinct e = (codes "end", [], sym e, inl (refl, refl))
+behind_edges p nodes edges (f ∷ fs) u fits distinct e =
+    let own = All-head (FitsEdge p (length nodes)) f fs (All-back (FitsEdge p (length nodes)) edges (f ∷ fs) fits) in
+    (edge_line p f, map (edge_line p) fs ++ codes "end" ∷ [], sym e, inr (inr (f, own, differs edges f fs distinct, refl)))
+
+behind_nodes :
+    (p : Problem) (g : Graph) (nodes ms : List Node) (edges : List Edge) (u : List (List ℕ)) → length nodes < 2 ^ 64 → Fits p g → All (FitsEdge p (length nodes)) edges →
+    g.nodes ≡ nodes ++ ms → map (node_line p) ms ++ (map (edge_line p) g.edges ++ codes "end" ∷ []) ≡ map (edge_line p) edges ++ u → IsTail p nodes edges u
+behind_nodes p g nodes [] edges u few fits fe all e =
+    let same : g.nodes ≡ nodes = all ∙ append-nil nodes in
+    let own = subst (λ ns. All (FitsEdge p (length ns)) g.edges) same fits.edges in
+    let parts = same_front (edge_line p) (FitsEdge p (length nodes)) (λ x y fx fy. one_edge p (length nodes) x y few fx fy) g.edges edges (codes "end" ∷ []) u own fe (no_more_edges p) e in
+    behind_edges p nodes edges parts.0 u (subst (All (FitsEdge p (length nodes))) parts.1 own) (subst (AllPairs (λ x y. x ≢ y)) parts.1 fits.distinct) parts.2
+behind_nodes p g nodes (m ∷ ms) [] u few fits fe all e =
+    let own = All-head (FitsNode p) m ms (All-back (FitsNode p) nodes (m ∷ ms) (subst (All (FitsNode p)) all fits.nodes)) in
+    (node_line p m, map (node_line p) ms ++ (map (edge_line p) g.edges ++ codes "end" ∷ []), sym e, inr (inl (m, own, refl, refl)))
+behind_nodes p g nodes (m ∷ ms) (f ∷ edges) u few fits fe all e =
+    let same : node_line p m ≡ edge_line p f = cc in
+    absurd (node_not_edge p m f same)
+
+tail_of :
+    (p : Problem) (g : Graph) (nodes : List Node) (edges : List Edge) (u : List (List ℕ)) → length nodes < 2 ^ 64 → Fits p g → All (FitsNode p) nodes →
+    All (FitsEdge p (length nodes)) edges → graph_lines p g ≡ front_lines p nodes edges ++ u → IsTail p nodes edges u
+tail_of p g nodes edges u few fits fn fe e =
+    let behind : map (node_line p) g.nodes ++ (map (edge_line p) g.edges ++ codes "end" ∷ []) ≡ (map (node_line p) nodes ++ map (edge_line p) edges) ++ u = cc in
+    let lines = behind ∙ append_assoc (map (node_line p) nodes) (map (edge_line p) edges) u in
+    let parts = same_front (node_line p) (FitsNode p) (one_node p) g.nodes nodes (map (edge_line p) g.edges ++ codes "end" ∷ []) (map (edge_line p) edges ++ u) fits.nodes fn
+    (no_more_nodes p g.edges) lines in
+    behind_nodes p g nodes parts.0 edges u few fits fe parts.1 parts.2
+
+-- the rest begins with a line that may stand behind these
+pub record IsNext (p : Problem) (nodes : List Node) (edges : List Edge) (rest : List ℕ) (Over : List ℕ → Type 0) : Type 0 where
   pub line : List ℕ
   pub after : List ℕ
   pub begun : rest ≡ line ++ 10 ∷ after
-  pub whole : NoBreak line
-  pub kind : ((line ≡ codes "end") × Over after) ⊎ ((n : Node) × FitsNode p n × (line ≡ node_line p n))
+  pub kind : IsKind p nodes edges line (Over after)
 
-IsNext-all :
-    (p : Problem) (gs nodes : List Node) (more : List (List ℕ)) (rest : List ℕ) → All (FitsNode p) gs → All NoBreak more →
-    map (node_line p) gs ++ codes "end" ∷ [] ≡ map (node_line p) nodes ++ more → rest ≡ joined_lines more → IsNext p rest (λ after. after ≡ [])
-IsNext-all p gs nodes [] rest fits whole e same = absurd (never_over p gs nodes e)
-IsNext-all p gs nodes (line ∷ more) rest fits whole e same = record {
-  line = line;
-  after = joined_lines more;
-  begun = same;
-  whole = All-head NoBreak line more whole;
-  kind = elim (next_line p gs nodes line more fits e) [ inl (over, none) ↦ inl (over, ap joined_lines none) | inr node ↦ inr node ];
-}
+kind_of :
+    (p : Problem) (nodes : List Node) (edges : List Edge) (line : List ℕ) (Over Other : Type 0) → (Over → Other) → IsKind p nodes edges line Over →
+    IsKind p nodes edges line Other
+kind_of p nodes edges line Over Other turn kind = elim kind [ inl (over, holds) ↦ inl (over, turn holds) | inr other ↦ inr other ]
 
-IsNext-some :
-    (p : Problem) (gs nodes : List Node) (more further : List (List ℕ)) (rest r : List ℕ) (j : ℕ) → All (FitsNode p) gs → All NoBreak more →
-    map (node_line p) gs ++ codes "end" ∷ [] ≡ map (node_line p) nodes ++ (more ++ further) → length more ≡ suc j →
-    rest ≡ joined_lines more ++ r → IsNext p rest (λ _. j ≡ 0)
-IsNext-some p gs nodes [] further rest r j fits whole e many same = absurd (omega arith)
-IsNext-some p gs nodes (line ∷ more) further rest r j fits whole e many same = record {
-  line = line;
-  after = joined_lines more ++ r;
-  begun = same ∙ append_assoc line (10 ∷ joined_lines more) r;
-  whole = All-head NoBreak line more whole;
-  kind = elim (next_line p gs nodes line (more ++ further) fits e) [
-    | inl (over, none) ↦ inl (over, omega (arith, ap length none, length-append more further))
-    | inr node ↦ inr node
-  ];
-}
-
--- what of a document stands behind the lines of these nodes
+-- what of a document stands behind the lines of these nodes and edges
 pub IsNext-document :
-    (p : Problem) (bytes rest : List ℕ) (nodes : List Node) (g : Graph) → All (FitsNode p) nodes →
-    bytes ≡ joined_lines (front_lines p nodes) ++ rest → IsDocument p g bytes → IsNext p rest (λ after. after ≡ [])
-IsNext-document p bytes rest nodes g fits so_far doc =
-    let parts = split_all (front_lines p nodes) (graph_lines p g) rest (NoBreak-front p nodes fits) (NoBreak-graph p g doc.fits) (sym so_far ∙ doc.spelled) in
-    let lines : graph_lines p g ≡ front_lines p nodes ++ parts.0 = parts.1 in
-    let whole = All-back NoBreak (front_lines p nodes) parts.0 (All-same NoBreak (front_lines p nodes ++ parts.0) (graph_lines p g) (sym lines) (NoBreak-graph p g doc.fits)) in
-    IsNext-all p g.nodes nodes parts.0 rest doc.fits whole (cc lines) parts.2
+    (p : Problem) (bytes rest : List ℕ) (nodes : List Node) (edges : List Edge) (g : Graph) → length nodes < 2 ^ 64 → All (FitsNode p) nodes →
+    All (FitsEdge p (length nodes)) edges → bytes ≡ joined_lines (front_lines p nodes edges) ++ rest → IsDocument p g bytes →
+    IsNext p nodes edges rest (λ after. after ≡ [])
+IsNext-document p bytes rest nodes edges g few fn fe so_far doc =
+    let parts = split_all (front_lines p nodes edges) (graph_lines p g) rest (NoBreak-front p (length nodes) nodes edges fn fe) (NoBreak-graph p g doc.fits) (sym so_far ∙ doc.spelled) in
+    let tail = tail_of p g nodes edges parts.0 few doc.fits fn fe parts.1 in
+    record {
+      line = tail.0;
+      after = joined_lines tail.1;
+      begun = parts.2 ∙ ap joined_lines tail.2;
+      kind = kind_of p nodes edges tail.0 (tail.1 ≡ []) (joined_lines tail.1 ≡ []) (ap joined_lines) tail.3;
+    }
 
 -- what of a begun document does
+next_of :
+    (p : Problem) (nodes : List Node) (edges : List Edge) (lines further : List (List ℕ)) (rest r : List ℕ) (j : ℕ) → length lines ≡ suc j →
+    rest ≡ joined_lines lines ++ r → IsTail p nodes edges (lines ++ further) → IsNext p nodes edges rest (λ _. j ≡ 0)
+next_of p nodes edges [] further rest r j many same tail = absurd (omega arith)
+next_of p nodes edges (l ∷ lines) further rest r j many same tail =
+    let whole : l ∷ (lines ++ further) ≡ tail.0 ∷ tail.1 = tail.2 in
+    let first : l ≡ tail.0 = cc in
+    let others : lines ++ further ≡ tail.1 = cc in
+    record {
+      line = tail.0;
+      after = joined_lines lines ++ r;
+      begun = same ∙ append_assoc l (10 ∷ joined_lines lines) r ∙ ap (λ k. k ++ 10 ∷ (joined_lines lines ++ r)) first;
+      kind = kind_of p nodes edges tail.0 (tail.1 ≡ []) (j ≡ 0) (λ none. omega (arith, ap length (others ∙ none), length-append lines further)) tail.3;
+    }
+
 pub IsNext-begun :
-    (p : Problem) (bytes rest : List ℕ) (nodes : List Node) (j : ℕ) → All (FitsNode p) nodes →
-    bytes ≡ joined_lines (front_lines p nodes) ++ rest → Begins p bytes (length nodes + 2 + j) → IsNext p rest (λ _. j ≡ 0)
-IsNext-begun p bytes rest nodes j fits so_far b =
-    let whole_front = All-front NoBreak b.front b.more (All-same NoBreak (b.front ++ b.more) (graph_lines p b.graph) (sym b.continued) (NoBreak-graph p b.graph b.fits)) in
-    let many : length b.front ≡ length (front_lines p nodes) + suc j = omega (arith, b.many, length-map nodes (node_line p)) in
-    let parts = split_lines (front_lines p nodes) b.front rest b.rest (suc j) (NoBreak-front p nodes fits) whole_front many (sym so_far ∙ b.begun) in
-    let lines : graph_lines p b.graph ≡ front_lines p nodes ++ (parts.0 ++ b.more) = b.continued ∙ ap (λ front. front ++ b.more) parts.1 ∙ append_assoc (front_lines p nodes) parts.0 b.more in
-    let whole = All-back NoBreak (front_lines p nodes) parts.0 (All-same NoBreak (front_lines p nodes ++ parts.0) b.front (sym parts.1) whole_front) in
-    IsNext-some p b.graph.nodes nodes parts.0 b.more rest b.rest j b.fits whole (cc lines) parts.2 parts.3
+    (p : Problem) (bytes rest : List ℕ) (nodes : List Node) (edges : List Edge) (j : ℕ) → length nodes < 2 ^ 64 → All (FitsNode p) nodes →
+    All (FitsEdge p (length nodes)) edges → bytes ≡ joined_lines (front_lines p nodes edges) ++ rest →
+    Begins p bytes (length nodes + length edges + 2 + j) → IsNext p nodes edges rest (λ _. j ≡ 0)
+IsNext-begun p bytes rest nodes edges j few fn fe so_far b =
+    let whole = All-front NoBreak b.front b.more (All-same NoBreak (b.front ++ b.more) (graph_lines p b.graph) (sym b.continued) (NoBreak-graph p b.graph b.fits)) in
+    let many : length b.front ≡ length (front_lines p nodes edges) + suc j =
+    omega (arith, b.many, length-append (map (node_line p) nodes) (map (edge_line p) edges), length-map nodes (node_line p), length-map edges (edge_line p)) in
+    let parts = split_lines (front_lines p nodes edges) b.front rest b.rest (suc j) (NoBreak-front p (length nodes) nodes edges fn fe) whole many (sym so_far ∙ b.begun) in
+    let lines = b.continued ∙ ap (λ front. front ++ b.more) parts.1 ∙ append_assoc (front_lines p nodes edges) parts.0 b.more in
+    next_of p nodes edges parts.0 b.more rest b.rest j parts.2 parts.3 (tail_of p b.graph nodes edges (parts.0 ++ b.more) few b.fits fn fe lines)
 
--- where no line is, none is next
-pub no_next : (p : Problem) (rest : List ℕ) (Over : List ℕ → Type 0) → NoBreak rest → IsNext p rest Over → ⊥
-no_next p rest Over none next = NoBreak-break next.line next.after (All-same (λ b. b ≢ 10) (next.line ++ 10 ∷ next.after) rest (sym next.begun) none)
-
--- where the first line is no end that may stand there, and no node's, it isn't
+-- a rest that begins with none of those is no next
 pub stuck :
-    (p : Problem) (rest line after : List ℕ) (Over : List ℕ → Type 0) → IsLine rest line after → (line ≡ codes "end" → Over after → ⊥) →
-    ((n : Node) → FitsNode p n → line ≡ node_line p n → ⊥) → IsNext p rest Over → ⊥
-stuck p rest line after Over is no_end no_node next =
-    let parts = one_line line next.line after next.after is.whole next.whole (sym is.joined ∙ next.begun) in
-    elim next.kind [
-      | inl (over, holds) ↦ no_end (parts.0 ∙ over) (subst Over (sym parts.1) holds)
-      | inr (n, fits, same) ↦ no_node n fits (parts.0 ∙ same)
-    ]
+    (p : Problem) (nodes : List Node) (edges : List Edge) (rest : List ℕ) (Over : List ℕ → Type 0) →
+    ((after : List ℕ) → rest ≡ codes "end\n" ++ after → Over after → ⊥) →
+    ((n : Node) (after : List ℕ) → FitsNode p n → edges ≡ [] → rest ≡ node_line p n ++ 10 ∷ after → ⊥) →
+    ((e : Edge) (after : List ℕ) → FitsEdge p (length nodes) e → (Contains edges e → ⊥) → rest ≡ edge_line p e ++ 10 ∷ after → ⊥) →
+    IsNext p nodes edges rest Over → ⊥
+stuck p nodes edges rest Over no_end no_node no_edge next = elim next.kind [
+  | inl (over, holds) ↦ no_end next.after (next.begun ∙ ap (λ l. l ++ 10 ∷ next.after) over) holds
+  | inr other ↦ elim other [
+    | inl (n, fits, none, same) ↦ no_node n next.after fits none (next.begun ∙ ap (λ l. l ++ 10 ∷ next.after) same)
+    | inr (e, fits, absent, same) ↦ no_edge e next.after fits absent (next.begun ∙ ap (λ l. l ++ 10 ∷ next.after) same)
+  ]
+]
 
--- the line behind those of these nodes is bad where none is next
+-- the graph so far
+abbrev pub graph_of : List Node → List Edge → Graph
+graph_of nodes edges = record { nodes = nodes; edges = edges }
+
+graph_lines-front : (p : Problem) (nodes : List Node) (edges : List Edge) → graph_lines p (graph_of nodes edges) ≡ front_lines p nodes edges ++ codes "end" ∷ []
+graph_lines-front p nodes edges =
+    ap (λ ls. codes "graph 1" ∷ ls) (sym (append_assoc (map (node_line p) nodes) (map (edge_line p) edges) (codes "end" ∷ [])))
+
+length-front : (p : Problem) (nodes : List Node) (edges : List Edge) → length (front_lines p nodes edges) ≡ length nodes + length edges + 1
+length-front p nodes edges =
+    omega (arith, length-append (map (node_line p) nodes) (map (edge_line p) edges), length-map nodes (node_line p), length-map edges (edge_line p))
+
+-- the line behind those of these is bad where none is next
 pub IsBadLine-next :
-    (p : Problem) (bytes rest : List ℕ) (nodes : List Node) (line : ℕ) → All (FitsNode p) nodes →
-    bytes ≡ joined_lines (front_lines p nodes) ++ rest → line ≡ length nodes + 2 →
-    (IsNext p rest (λ after. after ≡ []) → ⊥) → (IsNext p rest (λ _. ◌≡◌ {A = ℕ} 0 0) → ⊥) → IsBadLine p bytes line
-IsBadLine-next p bytes rest nodes line fits so_far place no_document no_begun = record {
-  none = λ g doc. no_document (IsNext-document p bytes rest nodes g fits so_far doc);
+    (p : Problem) (bytes rest : List ℕ) (nodes : List Node) (edges : List Edge) (line : ℕ) → length nodes < 2 ^ 64 → Fits p (graph_of nodes edges) →
+    bytes ≡ joined_lines (front_lines p nodes edges) ++ rest → line ≡ length nodes + length edges + 2 →
+    (IsNext p nodes edges rest (λ after. after ≡ []) → ⊥) → (IsNext p nodes edges rest (λ _. ◌≡◌ {A = ℕ} 0 0) → ⊥) → IsBadLine p bytes line
+IsBadLine-next p bytes rest nodes edges line few fits so_far place no_document no_begun = record {
+  none = λ g doc. no_document (IsNext-document p bytes rest nodes edges g few fits.nodes fits.edges so_far doc);
   positive = omega arith;
   before = record {
-    front = front_lines p nodes;
+    front = front_lines p nodes edges;
     rest = rest;
-    graph = record { nodes = nodes };
+    graph = graph_of nodes edges;
     more = codes "end" ∷ [];
     fits = fits;
-    many = omega (arith, length-map nodes (node_line p));
+    many = omega (arith, length-front p nodes edges);
     begun = so_far;
-    continued = refl;
+    continued = graph_lines-front p nodes edges;
   };
-  here = λ b. no_begun (IsNext-begun p bytes rest nodes 0 fits so_far (subst (Begins p bytes) (omega arith) b));
+  here = λ b. no_begun (IsNext-begun p bytes rest nodes edges 0 few fits.nodes fits.edges so_far (subst (Begins p bytes) (omega arith) b));
 }
 
 -- the lines so far with the end behind them
 with_end :
-    (p : Problem) (bytes rest line after : List ℕ) (nodes : List Node) → bytes ≡ joined_lines (front_lines p nodes) ++ rest → IsLine rest line after →
-    line ≡ codes "end" → bytes ≡ joined_lines (front_lines p nodes ++ codes "end" ∷ []) ++ after
-with_end p bytes rest line after nodes so_far is ended =
-    so_far ∙ ap (λ r. joined_lines (front_lines p nodes) ++ r) (is.joined ∙ ap (λ l. l ++ 10 ∷ after) ended)
-    ∙ sym (append_assoc (joined_lines (front_lines p nodes)) (codes "end" ++ 10 ∷ []) after)
-    ∙ ap (λ ls. ls ++ after) (sym (joined_lines-append (front_lines p nodes) (codes "end" ∷ [])))
+    (p : Problem) (bytes rest after : List ℕ) (nodes : List Node) (edges : List Edge) → bytes ≡ joined_lines (front_lines p nodes edges) ++ rest →
+    rest ≡ codes "end\n" ++ after → bytes ≡ document p (graph_of nodes edges) ++ after
+with_end p bytes rest after nodes edges so_far ended =
+    so_far ∙ ap (λ r. joined_lines (front_lines p nodes edges) ++ r) ended
+    ∙ sym (append_assoc (joined_lines (front_lines p nodes edges)) (codes "end\n") after)
+    ∙ ap (λ ls. ls ++ after) (sym (joined_lines-append (front_lines p nodes edges) (codes "end" ∷ [])) ∙ ap joined_lines (sym (graph_lines-front p nodes edges)))
 
--- so many lines are those of the graph of these nodes, behind which something stands
+-- behind the end nothing is next but an end
+not_node : (p : Problem) (n : Node) (after s : List ℕ) → codes "end\n" ++ after ≡ node_line p n ++ 10 ∷ s → ⊥
+not_node p n after s e = let heads : ◌≡◌ {A = ℕ} 101 110 = ap (λ l. get_or l 0 0) e in absurd (omega (arith, heads))
+
+not_edge : (p : Problem) (f : Edge) (after s : List ℕ) → codes "end\n" ++ after ≡ edge_line p f ++ 10 ∷ s → ⊥
+not_edge p f after s e = let seconds : ◌≡◌ {A = ℕ} 110 100 = ap (λ l. get_or l 1 0) e in absurd (omega (arith, seconds))
+
+behind_end : (xs ys : List ℕ) → codes "end\n" ++ xs ≡ codes "end\n" ++ ys → xs ≡ ys
+behind_end xs ys e = cc
+
+-- so many lines are those of the graph of these, behind which something stands
 pub IsBadLine-behind :
-    (p : Problem) (bytes rest line after : List ℕ) (nodes : List Node) (place : ℕ) → All (FitsNode p) nodes →
-    bytes ≡ joined_lines (front_lines p nodes) ++ rest → IsLine rest line after → line ≡ codes "end" → (length after ≡ 0 → ⊥) →
-    place ≡ length nodes + 3 → IsBadLine p bytes place
-IsBadLine-behind p bytes rest line after nodes place fits so_far is ended more here = record {
-  none = λ g doc. stuck p rest line after (λ after. after ≡ []) is (λ _ none. more (ap length none)) no_node (IsNext-document p bytes rest nodes g fits so_far doc);
+    (p : Problem) (bytes rest after : List ℕ) (nodes : List Node) (edges : List Edge) (line : ℕ) → length nodes < 2 ^ 64 → Fits p (graph_of nodes edges) →
+    bytes ≡ joined_lines (front_lines p nodes edges) ++ rest → rest ≡ codes "end\n" ++ after → (length after ≡ 0 → ⊥) →
+    line ≡ length nodes + length edges + 3 → IsBadLine p bytes line
+IsBadLine-behind p bytes rest after nodes edges line few fits so_far ended more here = record {
+  none = λ g doc. stuck p nodes edges rest (λ after. after ≡ []) (λ s same none. more (ap length (behind_end after s (sym ended ∙ same) ∙ none))) no_node no_edge
+      (IsNext-document p bytes rest nodes edges g few fits.nodes fits.edges so_far doc);
   positive = omega arith;
   before = record {
-    front = front_lines p nodes ++ codes "end" ∷ [];
+    front = graph_lines p (graph_of nodes edges);
     rest = after;
-    graph = record { nodes = nodes };
+    graph = graph_of nodes edges;
     more = [];
     fits = fits;
-    many = omega (arith, length-map nodes (node_line p), length-append (front_lines p nodes) (codes "end" ∷ []));
-    begun = with_end p bytes rest line after nodes so_far is ended;
-    continued = sym (append-nil (front_lines p nodes ++ codes "end" ∷ []));
+    many = omega (arith, ap length (graph_lines-front p nodes edges), length-append (front_lines p nodes edges) (codes "end" ∷ []), length-front p nodes edges);
+    begun = with_end p bytes rest after nodes edges so_far ended;
+    continued = sym (append-nil (graph_lines p (graph_of nodes edges)));
   };
-  here = λ b. stuck p rest line after (λ _. ◌≡◌ {A = ℕ} 1 0) is (λ _ e. absurd (omega arith)) no_node (IsNext-begun p bytes rest nodes 1 fits so_far (subst (Begins p bytes) (omega arith) b));
+  here = λ b. stuck p nodes edges rest (λ _. ◌≡◌ {A = ℕ} 1 0) (λ s same one. absurd (omega (arith, one))) no_node no_edge
+      (IsNext-begun p bytes rest nodes edges 1 few fits.nodes fits.edges so_far (subst (Begins p bytes) (omega arith) b));
 }
   where
-    no_node : (n : Node) → FitsNode p n → line ≡ node_line p n → ⊥
-    no_node n _ same = end_not_node p n (sym ended ∙ same)
+    no_node : (n : Node) (s : List ℕ) → FitsNode p n → edges ≡ [] → rest ≡ node_line p n ++ 10 ∷ s → ⊥
+    no_node n s _ _ same = not_node p n after s (sym ended ∙ same)
+
+    no_edge : (f : Edge) (s : List ℕ) → FitsEdge p (length nodes) f → (Contains edges f → ⊥) → rest ≡ edge_line p f ++ 10 ∷ s → ⊥
+    no_edge f s _ _ same = not_edge p f after s (sym ended ∙ same)
 
 -- with nothing behind the end it is a document
 pub IsDocument-ended :
-    (p : Problem) (bytes rest line after : List ℕ) (nodes : List Node) → All (FitsNode p) nodes → bytes ≡ joined_lines (front_lines p nodes) ++ rest →
-    IsLine rest line after → line ≡ codes "end" → length after ≡ 0 → IsDocument p record { nodes = nodes } bytes
-IsDocument-ended p bytes rest line after nodes fits so_far is ended over = record {
+    (p : Problem) (bytes rest after : List ℕ) (nodes : List Node) (edges : List Edge) → Fits p (graph_of nodes edges) →
+    bytes ≡ joined_lines (front_lines p nodes edges) ++ rest → rest ≡ codes "end\n" ++ after → length after ≡ 0 →
+    IsDocument p (graph_of nodes edges) bytes
+IsDocument-ended p bytes rest after nodes edges fits so_far ended over = record {
   fits = fits;
-  spelled = with_end p bytes rest line after nodes so_far is ended
-      ∙ ap (λ r. document p record { nodes = nodes } ++ r) (empty_from_length after over) ∙ append-nil (document p record { nodes = nodes });
+  spelled = with_end p bytes rest after nodes edges so_far ended
+      ∙ ap (λ r. document p (graph_of nodes edges) ++ r) (empty_from_length after over) ∙ append-nil (document p (graph_of nodes edges));
 }
 
--- what the lines are with one more node
-pub front_lines-push :
-    (p : Problem) (nodes more : List Node) (n : Node) → more ≡ nodes ++ n ∷ [] →
-    joined_lines (front_lines p more) ≡ joined_lines (front_lines p nodes) ++ (node_line p n ++ 10 ∷ [])
-front_lines-push p nodes more n pushed =
-    ap (λ ns. joined_lines (front_lines p ns)) pushed
-    ∙ ap (λ ls. joined_lines (codes "graph 1" ∷ ls)) (map-append (node_line p) nodes (n ∷ []))
-    ∙ joined_lines-append (front_lines p nodes) (node_line p n ∷ [])
+-- edges that are written in the same way are the same, and so are nodes
+no_edges_left : (p : Problem) (es : List Edge) → map (edge_line p) es ++ codes "end" ∷ [] ≡ codes "end" ∷ [] → es ≡ []
+no_edges_left p [] e = refl
+no_edges_left p (f ∷ es) e = absurd (no_more_edges p f (map (edge_line p) es ++ codes "end" ∷ []) (sym e))
 
--- one more node
-pub one_more :
-    (p : Problem) (bytes rest line after : List ℕ) (nodes more : List Node) (n : Node) → bytes ≡ joined_lines (front_lines p nodes) ++ rest →
-    IsLine rest line after → line ≡ node_line p n → more ≡ nodes ++ n ∷ [] → bytes ≡ joined_lines (front_lines p more) ++ after
-one_more p bytes rest line after nodes more n so_far is spelled pushed =
-    so_far ∙ ap (λ r. joined_lines (front_lines p nodes) ++ r) (is.joined ∙ ap (λ l. l ++ 10 ∷ after) spelled ∙ sym (append_assoc (node_line p n) (10 ∷ []) after))
-    ∙ sym (append_assoc (joined_lines (front_lines p nodes)) (node_line p n ++ 10 ∷ []) after)
-    ∙ ap (λ ls. ls ++ after) (sym (front_lines-push p nodes more n pushed))
+same_edges :
+    (p : Problem) (many : ℕ) (es fs : List Edge) → many < 2 ^ 64 → All (FitsEdge p many) es → All (FitsEdge p many) fs →
+    map (edge_line p) es ++ codes "end" ∷ [] ≡ map (edge_line p) fs ++ codes "end" ∷ [] → es ≡ fs
+same_edges p many es fs few fe ff e =
+    let one : (x y : Edge) → FitsEdge p many x → FitsEdge p many y → edge_line p x ≡ edge_line p y → x ≡ y = λ x y fx fy. one_edge p many x y few fx fy in
+    let parts = same_front (edge_line p) (FitsEdge p many) one es fs (codes "end" ∷ []) (codes "end" ∷ []) fe ff (no_more_edges p) e in
+    parts.1 ∙ (ap (λ ms. fs ++ ms) (no_edges_left p parts.0 parts.2) ∙ append-nil fs)
 
--- nodes and bytes are no more with one more node
-pub no_longer :
-    (rest line after : List ℕ) (nodes more : List Node) (n : Node) (many : ℕ) → IsLine rest line after → more ≡ nodes ++ n ∷ [] →
-    length nodes + length rest + 8 ≤ many → length more + length after + 8 ≤ many
-no_longer rest line after nodes more n many is pushed before =
-    omega (arith, ap length is.joined, ap length pushed, length-append line (10 ∷ after), length-append nodes (n ∷ []))
+same_graph :
+    (p : Problem) (g h : Graph) (ms : List Node) → length g.nodes < 2 ^ 64 → Fits p g → Fits p h → h.nodes ≡ g.nodes ++ ms →
+    map (node_line p) ms ++ (map (edge_line p) h.edges ++ codes "end" ∷ []) ≡ map (edge_line p) g.edges ++ codes "end" ∷ [] → h ≡ g
+same_graph p g h [] few fg fh all e =
+    let nodes : h.nodes ≡ g.nodes = all ∙ append-nil g.nodes in
+    let own = subst (λ ns. All (FitsEdge p (length ns)) h.edges) nodes fh.edges in
+    let edges : h.edges ≡ g.edges = same_edges p (length g.nodes) h.edges g.edges few own fg.edges e in
+    λ i. record { nodes = nodes i; edges = edges i }
+same_graph p g h (m ∷ ms) few fg fh all e =
+    absurd (no_more_nodes p g.edges m (map (node_line p) ms ++ (map (edge_line p) h.edges ++ codes "end" ∷ [])) (sym e))
 
-same_nodes :
-    (p : Problem) (gs hs : List Node) (more : List (List ℕ)) → All (FitsNode p) gs → All (FitsNode p) hs →
-    map (node_line p) gs ++ codes "end" ∷ [] ≡ (map (node_line p) hs ++ codes "end" ∷ []) ++ more → hs ≡ gs
-same_nodes p [] [] more fg fh e = refl
-same_nodes p [] (h ∷ hs) more fg fh e = let same : codes "end" ≡ node_line p h = cc in absurd (end_not_node p h same)
-same_nodes p (g ∷ gs) [] more fg fh e = let same : codes "end" ≡ node_line p g = cc in absurd (end_not_node p g same)
-same_nodes p (g ∷ gs) (h ∷ hs) more fg fh e =
-    let heads : node_line p h ≡ node_line p g = cc in
-    let tails : map (node_line p) gs ++ codes "end" ∷ [] ≡ (map (node_line p) hs ++ codes "end" ∷ []) ++ more = cc in
-    let first = one_node p h g (All-head (FitsNode p) h hs fh) (All-head (FitsNode p) g gs fg) heads in
-    let others = same_nodes p gs hs more (All-tail (FitsNode p) g gs fg) (All-tail (FitsNode p) h hs fh) tails in
-    cc (first, others)
+no_lines : (more : List (List ℕ)) → [] ≡ joined_lines more → more ≡ []
+no_lines [] e = refl
+no_lines (l ∷ more) e = absurd (omega (arith, ap length e, length-append l (10 ∷ joined_lines more)))
+
+same_lines : (xs ys : List (List ℕ)) → All NoBreak xs → All NoBreak ys → joined_lines xs ≡ joined_lines ys → ys ≡ xs
+same_lines xs ys nx ny e =
+    let parts = split_all xs ys [] nx ny (append-nil (joined_lines xs) ∙ e) in
+    parts.1 ∙ (ap (λ ls. xs ++ ls) (no_lines parts.0 parts.2) ∙ append-nil xs)
 
 -- bytes are the document of one graph at most
-pub one_document : (p : Problem) (bytes : List ℕ) (g h : Graph) → IsDocument p g bytes → IsDocument p h bytes → h ≡ g
-one_document p bytes g h dg dh =
-    let parts = split_all (graph_lines p h) (graph_lines p g) [] (NoBreak-graph p h dh.fits) (NoBreak-graph p g dg.fits)
-    (append-nil (document p h) ∙ sym dh.spelled ∙ dg.spelled) in
-    let lines : graph_lines p g ≡ graph_lines p h ++ parts.0 = parts.1 in
-    let nodes = same_nodes p g.nodes h.nodes parts.0 dg.fits dh.fits (cc lines) in
-    λ i. record { nodes = nodes i }
+pub one_document : (p : Problem) (bytes : List ℕ) (g h : Graph) → length g.nodes < 2 ^ 64 → IsDocument p g bytes → IsDocument p h bytes → h ≡ g
+one_document p bytes g h few dg dh =
+    let whole = same_lines (graph_lines p g) (graph_lines p h) (NoBreak-graph p g dg.fits) (NoBreak-graph p h dh.fits) (sym dg.spelled ∙ dh.spelled) in
+    let lines : map (node_line p) h.nodes ++ (map (edge_line p) h.edges ++ codes "end" ∷ []) ≡ map (node_line p) g.nodes ++ (map (edge_line p) g.edges ++ codes "end" ∷ []) = cc whole in
+    let before = same_front (node_line p) (FitsNode p) (one_node p) h.nodes g.nodes (map (edge_line p) h.edges ++ codes "end" ∷ []) (map (edge_line p) g.edges ++ codes "end" ∷ [])
+    dh.fits.nodes dg.fits.nodes (no_more_nodes p h.edges) lines in
+    same_graph p g h before.0 few dg.fits dh.fits before.1 before.2
 
 first_line_is :
-    (p : Problem) (nodes : List Node) (front more : List (List ℕ)) (bytes rest : List ℕ) → ((rest : List ℕ) → bytes ≡ codes "graph 1\n" ++ rest → ⊥) →
-    length front ≡ 1 → bytes ≡ joined_lines front ++ rest → front_lines p nodes ++ codes "end" ∷ [] ≡ front ++ more → ⊥
-first_line_is p nodes [] more bytes rest no_head many begun continued = absurd (omega arith)
-first_line_is p nodes (line ∷ front) more bytes rest no_head many begun continued =
+    (p : Problem) (lines : List (List ℕ)) (front more : List (List ℕ)) (bytes rest : List ℕ) → ((rest : List ℕ) → bytes ≡ codes "graph 1\n" ++ rest → ⊥) →
+    length front ≡ 1 → bytes ≡ joined_lines front ++ rest → codes "graph 1" ∷ lines ≡ front ++ more → ⊥
+first_line_is p lines [] more bytes rest no_head many begun continued = absurd (omega arith)
+first_line_is p lines (line ∷ front) more bytes rest no_head many begun continued =
     let head : line ≡ codes "graph 1" = cc in
     no_head (joined_lines front ++ rest) (begun ∙ append_assoc line (10 ∷ joined_lines front) rest ∙ ap (λ l. l ++ 10 ∷ (joined_lines front ++ rest)) head)
 
 -- bytes that don't begin with the head are bad in the first line
 pub IsBadLine-head : (p : Problem) (bytes : List ℕ) → ((rest : List ℕ) → bytes ≡ codes "graph 1\n" ++ rest → ⊥) → IsBadLine p bytes 1
 IsBadLine-head p bytes no_head = record {
-  none = λ g doc. no_head (joined_lines (map (node_line p) g.nodes ++ codes "end" ∷ [])) doc.spelled;
+  none = λ g doc. no_head (joined_lines (map (node_line p) g.nodes ++ (map (edge_line p) g.edges ++ codes "end" ∷ []))) doc.spelled;
   positive = omega arith;
   before = record {
     front = [];
     rest = bytes;
-    graph = record { nodes = [] };
-    more = graph_lines p record { nodes = [] };
-    fits = All-nil (FitsNode p);
+    graph = graph_of [] [];
+    more = graph_lines p (graph_of [] []);
+    fits = record { nodes = All-nil (FitsNode p); edges = All-nil (FitsEdge p 0); distinct = λ i j d before h. absurd (omega (arith, h)) };
     many = refl;
     begun = refl;
     continued = refl;
   };
-  here = λ b. first_line_is p b.graph.nodes b.front b.more bytes b.rest no_head b.many b.begun b.continued;
+  here = λ b. first_line_is p (map (node_line p) b.graph.nodes ++ (map (edge_line p) b.graph.edges ++ codes "end" ∷ [])) b.front b.more bytes b.rest no_head b.many b.begun b.continued;
 }
 
--- the document so far, behind one more node
+-- the lines of nodes and of edges that were read one after the other
+pub read_so_far :
+    (p : Problem) (bytes behind behind_nodes rest : List ℕ) (nodes : List Node) (edges : List Edge) → bytes ≡ codes "graph 1\n" ++ behind →
+    behind ≡ joined_lines (map (node_line p) nodes) ++ behind_nodes → behind_nodes ≡ joined_lines (map (edge_line p) edges) ++ rest →
+    bytes ≡ joined_lines (front_lines p nodes edges) ++ rest
+read_so_far p bytes behind behind_nodes rest nodes edges head node_part edge_part =
+    head ∙ ap (λ r. codes "graph 1\n" ++ r) (node_part ∙ ap (λ r. joined_lines (map (node_line p) nodes) ++ r) edge_part
+    ∙ sym (append_assoc (joined_lines (map (node_line p) nodes)) (joined_lines (map (edge_line p) edges)) rest)
+    ∙ ap (λ ls. ls ++ rest) (sym (joined_lines-append (map (node_line p) nodes) (map (edge_line p) edges))))
+
+-- what is known where nodes and then edges were read, as many as there are
+pub record IsRead (p : Problem) (bytes rest : List ℕ) (nodes : List Node) (edges : List Edge) : Type 0 where
+  pub fits : Fits p (graph_of nodes edges)
+  pub so_far : bytes ≡ joined_lines (front_lines p nodes edges) ++ rest
+  pub no_node : (n : Node) (after : List ℕ) → FitsNode p n → edges ≡ [] → rest ≡ node_line p n ++ 10 ∷ after → ⊥
+  pub no_edge : (e : Edge) (after : List ℕ) → FitsEdge p (length nodes) e → (Contains edges e → ⊥) → rest ≡ edge_line p e ++ 10 ∷ after → ⊥
+
+pub IsRead-parts :
+    (p q : Problem) (bytes behind behind_nodes rest : List ℕ) (nodes : List Node) (edges : List Edge) (many : ℕ) → q ≡ p → many ≡ length nodes →
+    bytes ≡ codes "graph 1\n" ++ behind → All (FitsNode q) nodes → behind ≡ joined_lines (map (node_line q) nodes) ++ behind_nodes →
+    ((n : Node) (after : List ℕ) → FitsNode q n → behind_nodes ≡ node_line q n ++ 10 ∷ after → ⊥) → All (FitsEdge q many) edges →
+    AllPairs (λ x y. x ≢ y) edges → behind_nodes ≡ joined_lines (map (edge_line q) edges) ++ rest →
+    ((e : Edge) (after : List ℕ) → FitsEdge q many e → (Contains edges e → ⊥) → rest ≡ edge_line q e ++ 10 ∷ after → ⊥) →
+    IsRead p bytes rest nodes edges
+IsRead-parts p q bytes behind behind_nodes rest nodes edges many same count head fn node_part node_over fe distinct edge_part edge_over =
+    subst (λ x. IsRead x bytes rest nodes edges) same record {
+      fits = record { nodes = fn; edges = subst (λ (k : ℕ). All (FitsEdge q k) edges) count fe; distinct = distinct };
+      so_far = read_so_far q bytes behind behind_nodes rest nodes edges head node_part edge_part;
+      no_node = λ n after fits none begun. node_over n after fits (edge_part ∙ ap (λ es. joined_lines (map (edge_line q) es) ++ rest) none ∙ begun);
+      no_edge = λ e after fits. edge_over e after (subst (λ (k : ℕ). FitsEdge q k e) (sym count) fits);
+    }
+
+-- the text so far, behind one more line of a list
 pub printed_more :
-    (p : Problem) (nodes : List Node) (i : ℕ) (d : Node) (text now : List ℕ) → i < length nodes → text ≡ joined_lines (front_lines p (take i nodes)) →
-    now ≡ text ++ (node_line p (get_or nodes i d) ++ 10 ∷ []) → now ≡ joined_lines (front_lines p (take (i + 1) nodes))
-printed_more p nodes i d text now within so_far pushed =
-    pushed ∙ ap (λ bytes. bytes ++ (node_line p (get_or nodes i d) ++ 10 ∷ [])) so_far
-    ∙ sym (front_lines-push p (take i nodes) (take (i + 1) nodes) (get_or nodes i d) (take_more nodes i d within))
+    {X : Type 0} (line_of : X → List ℕ) (front : List ℕ) (xs : List X) (i : ℕ) (d : X) (text now : List ℕ) → i < length xs →
+    text ≡ front ++ joined_lines (map line_of (take i xs)) → now ≡ text ++ (line_of (get_or xs i d) ++ 10 ∷ []) →
+    now ≡ front ++ joined_lines (map line_of (take (i + 1) xs))
+printed_more line_of front xs i d text now within so_far pushed =
+    pushed ∙ ap (λ bytes. bytes ++ (line_of (get_or xs i d) ++ 10 ∷ [])) so_far
+    ∙ append_assoc front (joined_lines (map line_of (take i xs))) (line_of (get_or xs i d) ++ 10 ∷ [])
+    ∙ ap (λ bytes. front ++ bytes) (sym (lines-push line_of (take i xs) (take (i + 1) xs) (get_or xs i d) (take_more xs i d within)))
+
+-- the lines of the whole list
+pub printed_whole :
+    {X : Type 0} (line_of : X → List ℕ) (front : List ℕ) (xs ys : List X) (i : ℕ) (text : List ℕ) → xs ≡ ys → length xs ≤ i →
+    text ≡ front ++ joined_lines (map line_of (take i xs)) → text ≡ front ++ joined_lines (map line_of ys)
+printed_whole line_of front xs ys i text same over so_far = so_far ∙ ap (λ zs. front ++ joined_lines (map line_of zs)) (take_all i xs over ∙ same)
 
 -- the whole document, behind the end
 pub printed_all :
-    (p : Problem) (g : Graph) (nodes : List Node) (i : ℕ) (text now : List ℕ) → nodes ≡ g.nodes → length nodes ≤ i →
-    text ≡ joined_lines (front_lines p (take i nodes)) → now ≡ text ++ codes "end\n" → now ≡ document p g
-printed_all p g nodes i text now same over so_far pushed =
-    pushed ∙ ap (λ bytes. bytes ++ codes "end\n") (so_far ∙ ap (λ ns. joined_lines (front_lines p ns)) (take_all i nodes over ∙ same))
-    ∙ sym (joined_lines-append (front_lines p g.nodes) (codes "end" ∷ []))
+    (p : Problem) (g : Graph) (text now : List ℕ) →
+    text ≡ (codes "graph 1\n" ++ joined_lines (map (node_line p) g.nodes)) ++ joined_lines (map (edge_line p) g.edges) → now ≡ text ++ codes "end\n" →
+    now ≡ document p g
+printed_all p g text now so_far pushed =
+    pushed ∙ ap (λ bytes. bytes ++ codes "end\n") so_far
+    ∙ append_assoc (codes "graph 1\n" ++ joined_lines (map (node_line p) g.nodes)) (joined_lines (map (edge_line p) g.edges)) (codes "end\n")
+    ∙ append_assoc (codes "graph 1\n") (joined_lines (map (node_line p) g.nodes)) (joined_lines (map (edge_line p) g.edges) ++ codes "end\n")
+    ∙ ap (λ bytes. codes "graph 1\n" ++ (joined_lines (map (node_line p) g.nodes) ++ bytes)) (sym (joined_lines-append (map (edge_line p) g.edges) (codes "end" ∷ [])))
+    ∙ ap (λ bytes. codes "graph 1\n" ++ bytes) (sym (joined_lines-append (map (node_line p) g.nodes) (map (edge_line p) g.edges ++ codes "end" ∷ [])))

@@ -1,5 +1,15 @@
+pub mod Atoms
 pub mod BadLines
 pub mod Documents
+pub mod Edges
+pub mod FirstOfAll
+pub mod FirstOfKind
+pub mod Firsts
+pub mod Grown
 pub mod Index
-pub mod NodeLines
-pub mod Kept
+pub mod Lines
+pub mod Literals
+pub mod Meaning
+pub mod ProblemNames
+pub mod SampleProblem
+pub mod Seen

@@ -1,9 +1,10 @@
+-- Where bytes stop being what a graph document of a problem begins with.
 use Rattle.std.specs.Prelude.{◌≡◌, ◌<◌, ◌-◌, ℕ, List, ◌++◌, length}
 use Rattle.rf_text.specs.Line.{joined_lines}
 use Rattle.rf_problem.specs.declared.problem.Problem.{Problem}
 use Rattle.rf_graph.specs.declared.graph.Graph.{Graph}
 use Rattle.rf_graph.specs.Document.{IsDocument, graph_lines}
-use Rattle.rf_graph.specs.Fits.{Fits}
+use Rattle.rf_graph.specs.Graph.{Fits}
 
 -- the bytes have so many lines at least, and some graph document of the problem begins with them
 pub record Begins (p : Problem) (bytes : List ℕ) (lines : ℕ) : Type 0 where

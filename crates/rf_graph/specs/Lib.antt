@@ -1,5 +1,9 @@
 pub mod BadLine
 pub mod Document
-pub mod Fits
+pub mod Evaluate
+pub mod First
+pub mod Graph
+pub mod Holds
+pub mod Laws
 pub mod Names
-pub mod Satisfy
+pub mod Violations

@@ -9,8 +9,20 @@ pub struct Node {
     pub origin: u64,
 }
 
-/// A graph, for now of nodes alone.
+/// An edge of a graph.
+#[derive(Clone, Copy, Debug, PartialEq, Eq)]
+pub struct Edge {
+    /// The number of its reference.
+    pub reference: u32,
+    /// The number of the node that it leads from.
+    pub from: u64,
+    /// The number of the node that it leads to.
+    pub to: u64,
+}
+
+/// A graph: nodes, and edges between them.
 #[derive(Debug, Drop)]
 pub struct Graph {
     pub nodes: Items<Node>,
+    pub edges: Items<Edge>,
 }

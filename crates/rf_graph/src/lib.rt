@@ -1,19 +1,20 @@
-//! Graphs: their documents, read and printed, and the judgement whether one satisfies a problem.
+//! Graphs: what they are, when a symbol holds in one, when one satisfies a problem and what its first
+//! violation is, and the documents that are written of them.
 #![tactic(auto)]
 
 mod graph;
+mod laws;
 mod line;
 mod names;
-mod object;
 mod print;
 mod read;
-mod satisfy;
-#[cfg(test)]
-mod tests;
 mod verdict;
 
-pub use graph::{Graph, Node};
-pub use print::{print_graph, push_object};
+pub use graph::{Edge, Graph, Node};
+pub use laws::{first_violation_law, holds_law};
+pub use print::{print_graph, push_class, push_object, push_reference, push_symbol};
 pub use read::{GraphError, read_graph};
-pub use satisfy::judge;
 pub use verdict::{Verdict, Violation};
+
+#[cfg(test)]
+mod tests;

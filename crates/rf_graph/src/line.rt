@@ -1,20 +1,13 @@
-ghost use Rattle.std.specs.Prelude.{◌≡◌, ◌++◌, codes, List, ℕ, IfSome, IfNone};
+ghost use Rattle.std.specs.Prelude.{◌≡◌, ◌<◌, ◌++◌, codes, decimal, List, ℕ, IfSome, IfNone};
+ghost use Rattle.rf_graph.specs.declared.graph.Edge.{Edge as EdgeValue};
 ghost use Rattle.rf_graph.specs.declared.graph.Node.{Node as NodeValue};
-ghost use Rattle.rf_graph.specs.Document.{node_line};
-ghost use Rattle.rf_graph.specs.Fits.{FitsNode};
-ghost use Rattle.rf_graph.specs.Names.{IsFirstWord, IsNodeLine, NoSpace};
+ghost use Rattle.rf_graph.specs.Document.{edge_line, node_line};
+ghost use Rattle.rf_graph.specs.Graph.{FitsEdge, FitsNode};
+ghost use Rattle.rf_graph.specs.Names.{IsLastWord, NoSpace};
 
-use crate::Node;
-use crate::names::ClassIndex;
-
-// What stands in front of the first space, and what behind it.
-fn first_word(bytes: &[u8]) -> Option<(&[u8], &[u8])>
-    ensures found { IfSome result (λ parts. IsFirstWord bytes.now parts.0.now parts.1.now) }
-    ensures none { IfNone result (NoSpace bytes.now) }
-{
-    let end = bytes.iter().position(|byte| *byte == b' ')?;
-    Some((&bytes[..end], &bytes[end + 1..]))
-}
+use crate::names::Numbers;
+use crate::{Edge, Node};
+use rf_text::{read_number, split_written};
 
 // What stands behind the word that begins the line of a node.
 fn behind_node(line: &[u8]) -> Option<&[u8]>
@@ -24,37 +17,72 @@ fn behind_node(line: &[u8]) -> Option<&[u8]>
     line.strip_prefix(b"node ".as_slice())
 }
 
-// The name of the class whose new object is called so.
-fn before_new(object: &[u8]) -> Option<&[u8]>
-    ensures found { IfSome result (λ name. object.now ≡ name.now ++ codes "::new") }
-    ensures none { IfNone result ((name : List ℕ) → object.now ≡ name ++ codes "::new" → ⊥) }
+// What stands behind the word that begins the line of an edge.
+fn behind_edge(line: &[u8]) -> Option<&[u8]>
+    ensures found { IfSome result (λ rest. line.now ≡ codes "edge " ++ rest.now) }
+    ensures none { IfNone result ((rest : List ℕ) → line.now ≡ codes "edge " ++ rest → ⊥) }
 {
-    object.strip_suffix(b"::new".as_slice())
+    line.strip_prefix(b"edge ".as_slice())
 }
 
-// The name of the class of a node, and of the class whose new object it comes from, where its line is
-// written so.
-fn split_node(line: &[u8]) -> Option<(&[u8], &[u8])>
-    ensures found { IfSome result (λ names. IsNodeLine line.now names.0.now names.1.now) }
-    ensures none { IfNone result ((class origin : List ℕ) → IsNodeLine line.now class origin → ⊥) }
+// What stands behind a space.
+fn behind_space(bytes: &[u8]) -> Option<&[u8]>
+    ensures found { IfSome result (λ rest. bytes.now ≡ codes " " ++ rest.now) }
+    ensures none { IfNone result ((rest : List ℕ) → bytes.now ≡ codes " " ++ rest → ⊥) }
 {
-    let names = behind_node(line)?;
-    let (class, object) = first_word(names)?;
-    let origin = before_new(object)?;
-    Some((class, origin))
+    bytes.strip_prefix(b" ".as_slice())
+}
+
+// What stands in front of the last space, and what behind it.
+fn last_word(bytes: &[u8]) -> Option<(&[u8], &[u8])>
+    ensures found { IfSome result (λ parts. IsLastWord bytes.now parts.0.now parts.1.now) }
+    ensures none { IfNone result (NoSpace bytes.now) }
+{
+    let end = bytes.iter().rposition(|byte| *byte == b' ')?;
+    Some((&bytes[..end], &bytes[end + 1..]))
+}
+
+// The number of a node, of which there are so many, that is written so.
+fn read_place(nodes: u64, word: &[u8]) -> Option<u64>
+    ensures found { IfSome result (λ n. (n < nodes) × (word.now ≡ decimal n)) }
+    ensures none { IfNone result ((n : ℕ) → n < nodes → word.now ≡ decimal n → ⊥) }
+{
+    match read_number(word) {
+        Some(n) if n < nodes => Some(n),
+        _ => None,
+    }
 }
 
 /// The node whose line this is; None where it is the line of no node.
-pub fn read_node(index: &ClassIndex<'_>, line: &[u8]) -> Option<Node>
-    ensures fits { IfSome result (λ node. FitsNode index.now.problem.now node) }
-    ensures spelled { IfSome result (λ node. line.now ≡ node_line index.now.problem.now node) }
-    ensures none { IfNone result ((node : NodeValue) → FitsNode index.now.problem.now node → line.now ≡ node_line index.now.problem.now node → ⊥) }
+pub fn read_node(numbers: &Numbers<'_>, line: &[u8]) -> Option<Node>
+    ensures fits { IfSome result (λ node. FitsNode numbers.now.problem.now node) }
+    ensures spelled { IfSome result (λ node. line.now ≡ node_line numbers.now.problem.now node) }
+    ensures none { IfNone result ((node : NodeValue) → FitsNode numbers.now.problem.now node → line.now ≡ node_line numbers.now.problem.now node → ⊥) }
 {
-    let (class_name, origin_name) = split_node(line)?;
-    let class = index.find(class_name)?;
-    let origin = index.find(origin_name)?;
-    Some(Node {
-        class,
-        origin: u64::from(origin),
+    let names = behind_node(line)?;
+    let (class_name, behind) = split_written(names)?;
+    let object_name = behind_space(behind)?;
+    let class = numbers.find_class(class_name)?;
+    let origin = numbers.find_object(object_name)?;
+    Some(Node { class, origin })
+}
+
+/// The edge between two of so many nodes whose line this is; None where it is the line of no such
+/// edge.
+pub fn read_edge(numbers: &Numbers<'_>, nodes: u64, line: &[u8]) -> Option<Edge>
+    ensures fits { IfSome result (λ edge. FitsEdge numbers.now.problem.now nodes edge) }
+    ensures spelled { IfSome result (λ edge. line.now ≡ edge_line numbers.now.problem.now edge) }
+    ensures none { IfNone result ((edge : EdgeValue) → FitsEdge numbers.now.problem.now nodes edge → line.now ≡ edge_line numbers.now.problem.now edge → ⊥) }
+{
+    let behind = behind_edge(line)?;
+    let (front, to_word) = last_word(behind)?;
+    let (reference_name, from_word) = last_word(front)?;
+    let reference = numbers.find_reference(reference_name)?;
+    let from = read_place(nodes, from_word)?;
+    let to = read_place(nodes, to_word)?;
+    Some(Edge {
+        reference,
+        from,
+        to,
     })
 }

@@ -1,14 +1,19 @@
-ghost use Rattle.std.specs.Prelude.{◌≡◌, ◌++◌, ◌↔◌, List, ℕ, IfOk, IfSome, IfNone, IsTrue, ◌⊎◌, codes};
+ghost use Rattle.std.specs.Prelude.{◌≡◌, ◌≢◌, ◌++◌, ◌∷◌, ◌+◌, ◌≤◌, ◌↔◌, List, ℕ, map, length, All, AllPairs, Contains, IfOk, IfSome, IfNone, ◌⊎◌, codes};
+ghost use Rattle.rf_text.specs.Line.{joined_lines};
+ghost use Rattle.rf_graph.specs.declared.graph.Edge.{Edge as EdgeValue};
+ghost use Rattle.rf_graph.specs.declared.graph.Node.{Node as NodeValue};
 ghost use Rattle.rf_graph.specs.BadLine.{IsBadLine};
-ghost use Rattle.rf_graph.specs.Document.{IsDocument};
+ghost use Rattle.rf_graph.specs.Document.{IsDocument, edge_line, node_line};
+ghost use Rattle.rf_graph.specs.Graph.{FitsEdge, FitsNode};
 ghost use Rattle.rf_graph.specs.declared.read.GraphError.TheVariants.{Memory};
 
-use crate::Graph;
-use crate::line::read_node;
-use crate::names::ClassIndex;
+use crate::line::{read_edge, read_node};
+use crate::names::{Names, Numbers};
+use crate::{Edge, Graph, Node};
 use rf_problem::Problem;
 use rf_text::{Items, first_line};
 use std::alloc::{AllocError, AllocFailed, Global};
+use std::collections::BTreeSet;
 use thiserror::Error;
 
 /// Why bytes are not read as a graph.
@@ -47,10 +52,81 @@ fn behind_head(bytes: &[u8]) -> Option<&[u8]>
     bytes.strip_prefix(b"graph 1\n".as_slice())
 }
 
-fn is_end(line: &[u8]) -> bool
-    ensures { IsTrue result ↔ (line.now ≡ codes "end") }
+// What stands behind the first line, where that is the end of a graph document.
+fn behind_end(bytes: &[u8]) -> Option<&[u8]>
+    ensures found { IfSome result (λ rest. bytes.now ≡ codes "end\n" ++ rest.now) }
+    ensures none { IfNone result ((rest : List ℕ) → bytes.now ≡ codes "end\n" ++ rest → ⊥) }
 {
-    line == b"end".as_slice()
+    bytes.strip_prefix(b"end\n".as_slice())
+}
+
+// The node whose line the bytes begin with, and what stands behind that line.
+fn first_node<'b>(numbers: &Numbers<'_>, bytes: &'b [u8]) -> Option<(Node, &'b [u8])>
+    ensures fits { IfSome result (λ found. FitsNode numbers.now.problem.now found.0) }
+    ensures joined { IfSome result (λ found. bytes.now ≡ node_line numbers.now.problem.now found.0 ++ 10 ∷ found.1.now) }
+    ensures none { IfNone result ((node : NodeValue) (after : List ℕ) → FitsNode numbers.now.problem.now node → bytes.now ≡ node_line numbers.now.problem.now node ++ 10 ∷ after → ⊥) }
+{
+    let (line, after) = first_line(bytes)?;
+    let node = read_node(numbers, line)?;
+    Some((node, after))
+}
+
+// The edge whose line the bytes begin with, and what stands behind that line.
+fn first_edge<'b>(numbers: &Numbers<'_>, nodes: u64, bytes: &'b [u8]) -> Option<(Edge, &'b [u8])>
+    ensures fits { IfSome result (λ found. FitsEdge numbers.now.problem.now nodes found.0) }
+    ensures joined { IfSome result (λ found. bytes.now ≡ edge_line numbers.now.problem.now found.0 ++ 10 ∷ found.1.now) }
+    ensures none { IfNone result ((edge : EdgeValue) (after : List ℕ) → FitsEdge numbers.now.problem.now nodes edge → bytes.now ≡ edge_line numbers.now.problem.now edge ++ 10 ∷ after → ⊥) }
+{
+    let (line, after) = first_line(bytes)?;
+    let edge = read_edge(numbers, nodes, line)?;
+    Some((edge, after))
+}
+
+// The nodes whose lines the bytes begin with, as many as there are, and what stands behind them.
+fn read_nodes<'b>(
+    alloc: Global,
+    numbers: &Numbers<'_>,
+    bytes: &'b [u8],
+) -> Result<(Vec<Node>, &'b [u8]), AllocError>
+    ensures fits { IfOk result (λ found. All (FitsNode numbers.now.problem.now) found.0.items) }
+    ensures joined { IfOk result (λ found. bytes.now ≡ joined_lines (map (node_line numbers.now.problem.now) found.0.items) ++ found.1.now) }
+    ensures few { IfOk result (λ found. length found.0.items + length found.1.now ≤ length bytes.now) }
+    ensures over { IfOk result (λ found. (node : NodeValue) (after : List ℕ) → FitsNode numbers.now.problem.now node → found.1.now ≡ node_line numbers.now.problem.now node ++ 10 ∷ after → ⊥) }
+{
+    let mut nodes = Vec::new(alloc);
+    let mut rest = bytes;
+    while let Some((node, after)) = first_node(numbers, rest) {
+        nodes.push(node)?;
+        rest = after;
+    }
+    Ok((nodes, rest))
+}
+
+// The edges, no two the same, whose lines the bytes begin with, as many as there are, and what
+// stands behind them.
+fn read_edges<'b>(
+    alloc: Global,
+    numbers: &Numbers<'_>,
+    nodes: u64,
+    bytes: &'b [u8],
+) -> Result<(Vec<Edge>, &'b [u8]), AllocError>
+    ensures fits { IfOk result (λ found. All (FitsEdge numbers.now.problem.now nodes) found.0.items) }
+    ensures distinct { IfOk result (λ found. AllPairs (λ e f. e ≢ f) found.0.items) }
+    ensures joined { IfOk result (λ found. bytes.now ≡ joined_lines (map (edge_line numbers.now.problem.now) found.0.items) ++ found.1.now) }
+    ensures few { IfOk result (λ found. length found.0.items + length found.1.now ≤ length bytes.now) }
+    ensures over { IfOk result (λ found. (edge : EdgeValue) (after : List ℕ) → FitsEdge numbers.now.problem.now nodes edge → (Contains found.0.items edge → ⊥) → found.1.now ≡ edge_line numbers.now.problem.now edge ++ 10 ∷ after → ⊥) }
+{
+    let mut edges = Vec::new(alloc);
+    let mut seen = BTreeSet::new(alloc);
+    let mut rest = bytes;
+    while let Some((edge, after)) = first_edge(numbers, nodes, rest) {
+        if !seen.insert((edge.reference, edge.from, edge.to))? {
+            break;
+        }
+        edges.push(edge)?;
+        rest = after;
+    }
+    Ok((edges, rest))
 }
 
 // The graph whose document the bytes are, of which there is one at the most.
@@ -59,31 +135,24 @@ fn read_document(alloc: Global, problem: &Problem, bytes: &[u8]) -> Result<Graph
     ensures same { IfOk result (λ g. (other : _) → IsDocument problem.now other bytes.now → other ≡ g) }
     ensures bad_line { (line : _) → result ≡ Err (GraphError.BadLine line) → IsBadLine problem.now bytes.now line }
 {
-    let index = ClassIndex::new(alloc, problem)?;
+    let names = Names::new(alloc, problem)?;
+    let numbers = Numbers::new(alloc, &names)?;
     let Some(behind) = behind_head(bytes) else {
         return Err(GraphError::BadLine(1));
     };
-    let mut nodes = Vec::new(alloc);
-    let mut rest = behind;
-    loop {
-        let here = nodes.len() as u64 + 2;
-        let Some((line, after)) = first_line(rest) else {
-            return Err(GraphError::BadLine(here));
-        };
-        if is_end(line) {
-            if after.is_empty() {
-                return Ok(Graph {
-                    nodes: Items::from_vec(nodes),
-                });
-            }
-            return Err(GraphError::BadLine(here + 1));
-        }
-        let Some(node) = read_node(&index, line) else {
-            return Err(GraphError::BadLine(here));
-        };
-        nodes.push(node)?;
-        rest = after;
+    let (nodes, behind_nodes) = read_nodes(alloc, &numbers, behind)?;
+    let (edges, rest) = read_edges(alloc, &numbers, nodes.len() as u64, behind_nodes)?;
+    let here = (nodes.len() + edges.len()) as u64 + 2;
+    let Some(after) = behind_end(rest) else {
+        return Err(GraphError::BadLine(here));
+    };
+    if !after.is_empty() {
+        return Err(GraphError::BadLine(here + 1));
     }
+    Ok(Graph {
+        nodes: Items::from_vec(nodes),
+        edges: Items::from_vec(edges),
+    })
 }
 
 /// The graph whose document the bytes are.

@@ -1,0 +1,16 @@
+//! What holds of graphs, each law as the contract of a function that does nothing.
+
+ghost use Rattle.rf_graph.specs.Laws.{FirstViolationIsComputed, HoldsIsComputed, MeaningExists, MeaningIsUnique, NoneIsComputedWhereSat};
+
+/// The predicates of a problem have one meaning in each graph, and the computed test finds what holds.
+pub fn holds_law()
+    ensures computed { HoldsIsComputed }
+    ensures exists { MeaningExists }
+    ensures unique { MeaningIsUnique }
+{}
+
+/// The first violation is computed kind by kind.
+pub fn first_violation_law()
+    ensures some { FirstViolationIsComputed }
+    ensures none { NoneIsComputedWhereSat }
+{}
