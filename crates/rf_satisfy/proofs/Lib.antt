@@ -1,0 +1,14 @@
+pub mod Keys
+pub mod Counts
+pub mod PeelingLemmas
+pub mod ContainerCounts
+pub mod Firsts
+pub mod HolderLemmas
+pub mod Kept
+pub mod PlaceLemmas
+pub mod EvaluationLemmas
+pub mod TupleLemmas
+pub mod NodeListLemmas
+pub mod SuspectLemmas
+pub mod SuspectEdgeLemmas
+pub mod PruningLemmas

@@ -1,0 +1,132 @@
+use Rattle.std.proofs.Common.{rules, arith, sym, ◌∙◌, ◌≡◌, ◌<◌, ◌≤◌, true, ap, max, ℕ, ◌+◌, subst, map, [], ◌∷◌, add-one, length, refl, drop}
+use Rattle.std.proofs.lemmas.List.{drop_all}
+use Rattle.std.specs.Prelude.{slice_index}
+use Rattle.rf_finite.proofs.Range.{some_below-from_one}
+use Rattle.rf_finite.proofs.Lists.{list_any-here, list_any-next}
+use Rattle.rf_finite.proofs.Walks.{walk_below-same}
+use Rattle.rf_graph.specs.Graph.{size_of}
+use Rattle.rf_satisfy.proofs.EvaluationLemmas.{some_places-at, AreNodes-with_place, AreNodes-arguments, AreNodes-pair, atom_at-empty, atom_at-same, symbol_at-same, predicate_true-deeper, row-more, declared-from_IsSound}
+use Rattle.rf_satisfy.proofs.PruningLemmas.{pruned}
+use Rattle.rf_satisfy.specs.Evaluation.{symbol_at}
+use Rattle.rf_satisfy.proofs.evaluate.+eval.Goals as goal
+
+pub atom_from-atom_holds-requires : goal.atom_from-atom_holds-requires
+atom_from-atom_holds-requires t c =
+    (search rules, (c.requires.declared, AreNodes-arguments c.arguments.result c.args.places c.args.args.now _ c.arguments.ensures c.requires.nodes))
+
+pub atom_from-returns-then-v-variables : goal.atom_from-returns-then-v-variables
+atom_from-returns-then-v-variables t c =
+    let none : drop c.args.v c.args.variables.now ≡ [] = drop_all c.args.v c.args.variables.now (omega arith) in
+    let same = atom_at-same c.args.view.now.problem c.args.view.now.graph c.args.depth c.args.closure c.args.symbol c.arguments.result (map (slice_index c.args.places) c.args.args.now) c.arguments.ensures in
+    rw none (rw same at c.atom_holds.ensures)
+
+pub atom_from-atom_from-requires-in-loop-x : goal.atom_from-atom_from-requires-in-loop-x
+atom_from-atom_from-requires-in-loop-x t c =
+    let l : c.loop-x.x < size_of c.args.view.now.graph = omega (arith, c.size-x-end.ensures) in (
+      search rules,
+      (
+        c.requires.few,
+        (
+          c.requires.declared,
+          (
+            c.requires.few_args,
+            AreNodes-with_place c.with_place-more.result c.args.places _ c.args.v c.loop-x.x c.with_place-more.ensures l c.requires.nodes,
+          ),
+        ),
+      ),
+    )
+
+pub atom_from-returns-then-branch : goal.atom_from-returns-then-branch
+atom_from-returns-then-branch t c =
+    let lx : c.loop-x.x < size_of c.args.view.now.graph = omega (arith, c.size-x-end.ensures) in
+    let e = sym c.is_of_literal.ensures ∙ c.if-not-is_of_literal.false in
+    let l : c.args.v < length c.args.variables.now = omega arith in
+    let here = sym (rw (add-one, c.with_place-more.ensures) at c.in_ok-atom_from.ensures) ∙ c.if-branch.true in
+    rw (some_places-at, e) (sym (some_below-from_one (size_of c.args.view.now.graph) _ c.loop-x.x lx here))
+
+pub atom_holds-symbol_holds-requires-then-size-eq0 : goal.atom_holds-symbol_holds-requires-then-size-eq0
+atom_holds-symbol_holds-requires-then-size-eq0 t c =
+    let n = max 1 (size_of c.args.view.now.graph) in
+    let from = subst (λ (x : ℕ). x < n) (sym c.place-from.ensures) (c.requires.nodes 0) in
+    let to = subst (λ (x : ℕ). x < n) (sym c.place-to.ensures) (c.requires.nodes 1) in
+    (search rules, (c.requires.declared, AreNodes-pair c.of_tuple.result c.place-from.result c.place-to.result _ c.of_tuple.ensures from to))
+
+pub atom_holds-returns-then-size-eq0 : goal.atom_holds-returns-then-size-eq0
+atom_holds-returns-then-size-eq0 t c =
+    let none : size_of c.args.view.now.graph ≡ 0 = omega (arith, c.size.ensures) in
+    let step = atom_at-empty c.args.view.now.problem c.args.view.now.graph c.args.depth c.args.symbol c.args.places none in
+    let same = symbol_at-same c.args.view.now.problem c.args.view.now.graph c.args.depth c.args.symbol c.of_tuple.result (c.place-from.result ∷ c.place-to.result ∷ []) c.of_tuple.ensures in
+    rw (c.if-not-closure.false, step, ← c.place-from.ensures, ← c.place-to.ensures) (rw same at c.symbol_holds-then-size-eq0.ensures)
+
+pub atom_holds-returns-in_ok-reached-in_default : goal.atom_holds-returns-in_ok-reached-in_default
+atom_holds-returns-in_ok-reached-in_default t c =
+    let n = size_of c.args.view.now.graph in
+    let some : 1 ≤ n = omega (arith, c.size.ensures) in
+    let from : c.place-from.result < n = (let l = subst (λ (x : ℕ). x < max 1 n) (sym c.place-from.ensures) (c.requires.nodes 0) in omega arith) in
+    let to : c.place-to.result < n = (let l = subst (λ (x : ℕ). x < max 1 n) (sym c.place-to.ensures) (c.requires.nodes 1) in omega arith) in
+    rw (c.if-not-closure.false, ← c.place-from.ensures, ← c.place-to.ensures)
+    ((rw c.deref.ensures.value at c.mark.ensures) ∙ ((rw c.size-in_default.ensures at c.in_ok-reached-in_default.ensures.value) c.place-to.result to
+    ∙ walk_below-same _ _ (λ (x : ℕ). true) (λ (x : ℕ). true) n (λ x y lx ly. c.in_ok-table-in_default.ensures x y lx ly) (λ x lx. refl) n c.place-from.result c.place-to.result (omega arith) from to))
+
+pub clause_from-returns-then-some_fails : goal.clause_from-returns-then-some_fails
+clause_from-returns-then-some_fails t c =
+    pruned c.args.view.now.problem c.args.view.now.graph c.args.depth c.args.clause.now (drop c.args.v c.args.clause.now.variables) c.args.v c.args.places
+    (rw c.as_slice.ensures at (c.some_fails.ensures c.if-some_fails.true))
+
+pub clause_from-returns-then-v-len : goal.clause_from-returns-then-v-len
+clause_from-returns-then-v-len t c =
+    let none : drop c.args.v c.args.clause.now.variables ≡ [] = drop_all c.args.v c.args.clause.now.variables (omega arith) in
+    rw none c.all_literals.ensures
+
+pub clause_from-clause_from-requires-in-loop-x : goal.clause_from-clause_from-requires-in-loop-x
+clause_from-clause_from-requires-in-loop-x t c =
+    let l : c.loop-x.x < size_of c.args.view.now.graph = omega (arith, c.size-x-end.ensures) in
+    (search rules, (c.requires.sound, AreNodes-with_place c.with_place.result c.args.places _ c.args.v c.loop-x.x c.with_place.ensures l c.requires.nodes))
+
+pub clause_from-returns-then-branch : goal.clause_from-returns-then-branch
+clause_from-returns-then-branch t c =
+    let lx : c.loop-x.x < size_of c.args.view.now.graph = omega (arith, c.size-x-end.ensures) in
+    let e = sym (rw c.as_slice-2.ensures at c.is_of_clause.ensures) ∙ c.if-not-is_of_clause.false in
+    let l : c.args.v < length c.args.clause.now.variables = omega arith in
+    let here = sym (rw (add-one, c.with_place.ensures) at c.in_ok-clause_from.ensures) ∙ c.if-branch.true in
+    rw (some_places-at, e) (sym (some_below-from_one (size_of c.args.view.now.graph) _ c.loop-x.x lx here))
+
+pub literal_holds-atom_holds-requires : goal.literal_holds-atom_holds-requires
+literal_holds-atom_holds-requires t c =
+    let declared = (declared-from_IsSound c.args.view.now.problem c.args.variables.now c.args.i c.in-Call.negated c.in-Call.closure c.in-Call.symbol c.in-Call.args (rw c.in-Call.is at c.requires.sound)).0 in
+    (search rules, (declared, AreNodes-arguments c.arguments.result c.args.places c.as_slice-args.result.now _ c.arguments.ensures c.requires.nodes))
+
+pub literal_holds-returns-else-negated : goal.literal_holds-returns-else-negated
+literal_holds-returns-else-negated t c =
+    let same = atom_at-same c.args.view.now.problem c.args.view.now.graph c.args.depth c.in-Call.closure c.in-Call.symbol c.arguments.result (map (slice_index c.args.places) c.as_slice-args.result.now) c.arguments.ensures in
+    rw (c.in-Call.is, c.if-negated.false) (rw (same, c.as_slice-args.ensures) at c.atom_holds.ensures)
+
+pub predicate_holds-returns : goal.predicate_holds-returns
+predicate_holds-returns t c =
+    let one = predicate_true-deeper c.args.view.now.problem c.args.view.now.graph c.args.depth c.args.q c.args.places (omega arith) in
+    let predicate = rw c.problem.ensures at c.predicate-predicate.ensures in
+    rw one (rw (c.as_slice.ensures, predicate) at c.some_clause.ensures)
+
+pub row-symbol_holds-requires : goal.row-symbol_holds-requires
+row-symbol_holds-requires t c =
+    let y : c.loop-y.y < size_of c.args.view.now.graph = omega (arith, c.size-y-end.ensures) in
+    (search rules, (c.requires.declared, AreNodes-pair c.of_tuple.result c.args.x c.loop-y.y _ c.of_tuple.ensures (omega (arith, c.requires.node)) (omega arith)))
+
+pub row-loop-y-preserved : goal.row-loop-y-preserved
+row-loop-y-preserved t c =
+    let p = c.args.view.now.problem in
+    let g = c.args.view.now.graph in
+    let same = symbol_at-same p g c.args.depth c.args.symbol c.of_tuple.result (c.args.x ∷ c.loop-y.y ∷ []) c.of_tuple.ensures in
+    record {
+      len = c.in_ok-push.ensures.len ∙ ap (λ (n : ℕ). n + 1) c.loop-y.invariant.len;
+      marks = rw c.in_ok-push.ensures.items (row-more (λ y. symbol_at p g c.args.depth c.args.symbol (c.args.x ∷ y ∷ [])) c.loop-y.marks.items c.loop-y.y c.in_ok-symbol_holds.field-0
+          (omega (arith, c.loop-y.invariant.len)) c.loop-y.invariant.marks (c.in_ok-symbol_holds.ensures ∙ same));
+    }
+
+pub some_clause-returns-then-branch : goal.some_clause-returns-then-branch
+some_clause-returns-then-branch t c =
+    list_any-here _ c.args.clauses.now c.loop-clause.clause-index c.clause-item.result c.loop-clause-test.true c.loop-clause.invariant c.clause-item.is (sym c.in_ok-clause_from.ensures ∙ c.if-branch.true)
+
+pub some_clause-loop-clause-preserved : goal.some_clause-loop-clause-preserved
+some_clause-loop-clause-preserved t c =
+    list_any-next _ c.args.clauses.now c.loop-clause.clause-index c.clause-item.result c.loop-clause-test.true c.loop-clause.invariant c.clause-item.is (sym c.in_ok-clause_from.ensures ∙ c.if-branch.false)

@@ -1,0 +1,71 @@
+use Rattle.std.proofs.Common.{◌≡◌, ℕ, suc, ◌+◌, ◌*◌, ◌^◌, ◌-◌, drop, length, vec_len, get_or, ◌<◌, true, false, [], ◌∷◌}
+use Rattle.std.specs.List.{list_any}
+use Rattle.std.specs.Prelude.{slice_index}
+use Rattle.rf_finite.specs.Range.{some_below}
+use Rattle.rf_problem.specs.Reading.{with_place}
+use Rattle.rf_problem.specs.Valid.{fit_literals}
+use Rattle.rf_graph.specs.Graph.{size_of}
+use Rattle.rf_satisfy.specs.Evaluation.{cell_of, clause_at, literals_at, some_atom, some_literals, symbol_at}
+use Rattle.rf_satisfy.proofs.evaluate.+eval.Given as goal
+
+abbrev pub decreases-predicate_holds : goal.decreases-predicate_holds
+decreases-predicate_holds l = l.depth * 2 ^ 66
+
+abbrev pub decreases-symbol_holds : goal.decreases-symbol_holds
+decreases-symbol_holds l = l.depth * 2 ^ 66 + 1
+
+abbrev pub decreases-row : goal.decreases-row
+decreases-row l = l.depth * 2 ^ 66 + 2
+
+abbrev pub decreases-table : goal.decreases-table
+decreases-table l = l.depth * 2 ^ 66 + 3
+
+abbrev pub decreases-atom_holds : goal.decreases-atom_holds
+decreases-atom_holds l = l.depth * 2 ^ 66 + 4
+
+abbrev pub decreases-atom_from : goal.decreases-atom_from
+decreases-atom_from l = l.depth * 2 ^ 66 + 5 + (length l.variables.now - l.v)
+
+abbrev pub decreases-literal_holds : goal.decreases-literal_holds
+decreases-literal_holds l = l.depth * 2 ^ 66 + 6 + 2 ^ 64
+
+abbrev pub decreases-all_literals : goal.decreases-all_literals
+decreases-all_literals l = l.depth * 2 ^ 66 + 7 + 2 ^ 64
+
+abbrev pub decreases-clause_from : goal.decreases-clause_from
+decreases-clause_from l = l.depth * 2 ^ 66 + 8 + 2 ^ 64 + (length l.clause.now.variables - l.v)
+
+abbrev pub decreases-some_clause : goal.decreases-some_clause
+decreases-some_clause l = l.depth * 2 ^ 66 + 8 + 2 ^ 65
+
+abbrev pub invariant-clause_from-loop-x : goal.invariant-clause_from-loop-x
+invariant-clause_from-loop-x l =
+    some_below l.x (λ x. some_literals l.view.problem l.view.graph l.depth l.clause (drop (suc l.v) l.clause.variables) (suc l.v) (with_place (slice_index l.places) l.v x)) ≡ false
+
+abbrev pub invariant-all_literals-loop-i : goal.invariant-all_literals-loop-i
+invariant-all_literals-loop-i l = record {
+  so_far : literals_at l.view.problem l.view.graph l.depth l.clause.variables l.i (slice_index l.places) (drop l.i l.clause.literals)
+      ≡ literals_at l.view.problem l.view.graph l.depth l.clause.variables 0 (slice_index l.places) l.clause.literals;
+  fit : fit_literals (length l.view.problem.classes) (length l.view.problem.references) l.view.problem.predicates l.clause.variables l.i (drop l.i l.clause.literals) ≡ true;
+}
+
+abbrev pub invariant-atom_from-loop-x : goal.invariant-atom_from-loop-x
+invariant-atom_from-loop-x l =
+    some_below l.x (λ x. some_atom l.view.problem l.view.graph l.depth (drop (suc l.v) l.variables) l.i l.closure l.symbol l.args (suc l.v) (with_place (slice_index l.places) l.v x)) ≡ false
+
+abbrev pub invariant-some_clause-loop-clause : goal.invariant-some_clause-loop-clause
+invariant-some_clause-loop-clause l =
+    list_any (clause_at l.view.problem l.view.graph l.depth l.arity l.places) (drop l.clause-index l.clauses)
+    ≡ list_any (clause_at l.view.problem l.view.graph l.depth l.arity l.places) l.clauses
+
+abbrev pub invariant-row-loop-y : goal.invariant-row-loop-y
+invariant-row-loop-y l = record {
+  len : vec_len l.marks ≡ l.y;
+  marks : (y : ℕ) → y < l.y → get_or l.marks.items y false ≡ symbol_at l.view.problem l.view.graph l.depth l.symbol (l.x ∷ y ∷ []);
+}
+
+abbrev pub invariant-table-loop-x : goal.invariant-table-loop-x
+invariant-table-loop-x l = record {
+  len : vec_len l.rows ≡ l.x;
+  cells : (x y : ℕ) → x < l.x → y < size_of l.view.graph → cell_of l.rows.items x y ≡ symbol_at l.view.problem l.view.graph l.depth l.symbol (x ∷ y ∷ []);
+}

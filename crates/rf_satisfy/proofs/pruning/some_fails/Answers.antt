@@ -1,0 +1,7 @@
+use Rattle.rf_satisfy.proofs.PruningLemmas.{FailTogether-from_one}
+use Rattle.rf_satisfy.proofs.pruning.some_fails.Goals as goal
+
+pub returns-then-fails : goal.returns-then-fails
+returns-then-fails c = λ _.
+    FailTogether-from_one c.args.view.now.problem c.args.view.now.graph c.args.v c.args.places c.args.literals.now c.loop-literal.literal-index c.literal-item.result
+    c.loop-literal-test.true c.literal-item.is (c.fails.ensures c.if-fails.true)

@@ -1,0 +1,71 @@
+-- What holds at nodes of a graph where calls of predicates go at most so deep.
+use Rattle.std.specs.Prelude.{◌≤◌, ◌<◌, max, ℕ, Bool, false, IsTrue, Option, None, Some, List, map, length, slice_get, slice_index, slice_index_or, Vec}
+use Rattle.std.specs.declared.alloc.Global.{Global}
+use Rattle.rf_problem.specs.Reading.{Places, atom_true, clause_true, literal_true, literals_true, predicate_true, some_places, symbol_true, is_entry}
+use Rattle.rf_problem.specs.Valid.{fit_literals, fits_literal, is_declared, is_free}
+use Rattle.rf_problem.specs.declared.predicate.Clause.{Clause}
+use Rattle.rf_problem.specs.declared.predicate.Literal.{Literal}
+use Rattle.rf_problem.specs.declared.problem.Problem.{Problem}
+use Rattle.rf_problem.specs.declared.symbol.Symbol.{Symbol}
+use Rattle.rf_graph.specs.Evaluate.{graph_reading}
+use Rattle.rf_graph.specs.declared.graph.Graph.{Graph}
+
+-- whether a symbol stands for a class, a reference or a predicate of the problem
+abbrev pub declares : Problem → Symbol → Bool
+declares p symbol = is_declared (length p.classes) (length p.references) (length p.predicates) symbol
+
+-- each place is one of n nodes; where there is none, each is 0
+abbrev pub AreNodes : ℕ → List ℕ → Type 0
+AreNodes n places = (k : ℕ) → slice_index places k < max 1 n
+
+-- whether a symbol holds at a tuple
+abbrev pub symbol_at : Problem → Graph → ℕ → Symbol → List ℕ → Bool
+symbol_at p g depth symbol t =
+    symbol_true (predicate_true p.predicates depth) (graph_reading p g) (graph_reading p g) symbol t
+
+-- whether an atom does
+abbrev pub atom_at : Problem → Graph → ℕ → Bool → Symbol → List ℕ → Bool
+atom_at p g depth closure symbol t =
+    atom_true (predicate_true p.predicates depth) (graph_reading p g) (graph_reading p g) closure symbol t
+
+-- whether the atom of literal i holds for some nodes that its own variables from v on stand for
+abbrev pub some_atom : Problem → Graph → ℕ → List (Option ℕ) → ℕ → Bool → Symbol → List ℕ → ℕ → Places → Bool
+some_atom p g depth entries i closure symbol args v places =
+    some_places (graph_reading p g) (is_entry i) entries v places (λ chosen. atom_at p g depth closure symbol (map chosen args))
+
+-- whether literal i of a clause with these variables holds
+abbrev pub literal_at : Problem → Graph → ℕ → List (Option ℕ) → ℕ → Places → Literal → Bool
+literal_at p g depth variables i places l =
+    literal_true (predicate_true p.predicates depth) (graph_reading p g) (graph_reading p g) variables i places l
+
+-- whether the literals from number i on do
+abbrev pub literals_at : Problem → Graph → ℕ → List (Option ℕ) → ℕ → Places → List Literal → Bool
+literals_at p g depth variables i places ls =
+    literals_true (predicate_true p.predicates depth) (graph_reading p g) (graph_reading p g) variables i places ls
+
+-- whether a clause's literals hold for some nodes that its variables from v on stand for; these are their entries
+abbrev pub some_literals : Problem → Graph → ℕ → Clause → List (Option ℕ) → ℕ → Places → Bool
+some_literals p g depth c entries v places =
+    some_places (graph_reading p g) is_free entries v places (λ chosen. literals_at p g depth c.variables 0 chosen c.literals)
+
+-- whether a clause holds at a tuple
+abbrev pub clause_at : Problem → Graph → ℕ → ℕ → List ℕ → Clause → Bool
+clause_at p g depth arity t c =
+    clause_true (predicate_true p.predicates depth) (graph_reading p g) (graph_reading p g) arity t c
+
+-- literal i of a clause with these variables is well formed
+abbrev pub IsSound : Problem → List (Option ℕ) → ℕ → Literal → Type 0
+IsSound p variables i l = IsTrue (fits_literal (length p.classes) (length p.references) p.predicates variables i l)
+
+-- a clause has few variables, and its literals are well formed
+pub record IsSoundClause (p : Problem) (c : Clause) : Type 0 where
+  pub few_variables : length c.variables ≤ 8
+  pub literals : IsTrue (fit_literals (length p.classes) (length p.references) p.predicates c.variables 0 c.literals)
+
+-- whether row x of a table is marked at y
+abbrev pub row_mark : Option (Vec Bool Global) → ℕ → Bool
+row_mark None y = false
+row_mark (Some row) y = slice_index_or row.items y false
+
+abbrev pub cell_of : List (Vec Bool Global) → ℕ → ℕ → Bool
+cell_of rows x y = row_mark (slice_get rows x) y

@@ -1,0 +1,12 @@
+pub mod Edges
+pub mod Containers
+pub mod Holders
+pub mod Peeling
+pub mod Least
+pub mod Objects
+pub mod Evaluation
+pub mod NodeLists
+pub mod Pruning
+pub mod Suspects
+pub mod Tuples
+pub mod Viewed

@@ -1,0 +1,36 @@
+//! Edges whose ends are of other classes than their reference leads between.
+
+ghost use Rattle.std.specs.Prelude.{◌≡◌};
+ghost use Rattle.rf_graph.specs.First.{first_edge, fits_ends};
+ghost use Rattle.rf_graph.specs.Graph.{Fits, FitsEdge, size_of};
+
+use crate::least::earlier;
+use crate::nodes::class_of;
+use rf_graph::{Edge, Graph, Violation};
+use rf_problem::ClassOrder;
+
+fn fits_ends(order: &ClassOrder<'_>, graph: &Graph, edge: Edge) -> bool
+    requires fits { Fits order.now.problem.now graph.now }
+    requires edge { FitsEdge order.now.problem.now (size_of graph.now) edge }
+    ensures { result ≡ fits_ends order.now.problem.now graph.now edge.reference edge.from edge.to }
+{
+    let reference = order.problem.reference(edge.reference);
+    order.is_below(class_of(graph, edge.from), reference.source)
+        && order.is_below(class_of(graph, edge.to), reference.target)
+}
+
+pub fn first_edge(order: &ClassOrder<'_>, graph: &Graph) -> Option<Violation>
+    requires { Fits order.now.problem.now graph.now }
+    ensures { result ≡ first_edge order.now.problem.now graph.now }
+{
+    let mut least = None;
+    for edge in graph.edges.as_slice() {
+        if !fits_ends(order, graph, *edge) {
+            least = earlier(least, *edge);
+        }
+    }
+    match least {
+        Some(edge) => Some(Violation::Edge(edge.reference, edge.from, edge.to)),
+        None => None,
+    }
+}

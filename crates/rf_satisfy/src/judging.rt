@@ -1,0 +1,121 @@
+//! Whether a graph satisfies a problem, kind by kind of violation.
+
+ghost use Rattle.std.specs.Prelude.{◌≡◌, IfOk};
+ghost use Rattle.std.specs.Option.{option_or};
+ghost use Rattle.rf_graph.specs.First.{first_asserted, first_class, first_containers, first_cycle, first_degree, first_edge, first_object, first_opposite, first_scope, first_violation};
+ghost use Rattle.rf_graph.specs.Graph.{Fits};
+ghost use Rattle.rf_graph.specs.Violations.{FirstViolation, IsVerdict, Sat};
+ghost use Rattle.rf_graph.specs.declared.verdict.Verdict.TheVariants.{Satisfied, Violated};
+ghost use Rattle.rf_graph.specs.declared.verdict.Violation.{Violation};
+
+use crate::asserted::first_asserted;
+use crate::containers::first_containers;
+use crate::cycle::first_cycle;
+use crate::degrees::first_degree;
+use crate::edges::EdgeIndex;
+use crate::ends::first_edge;
+use crate::mirrors::first_opposite;
+use crate::nodes::first_class;
+use crate::objects::first_object;
+use crate::scopes::first_scope;
+use crate::view::View;
+use rf_graph::{Graph, Verdict, Violation};
+use rf_problem::{ClassOrder, Problem};
+use std::alloc::{AllocError, Global};
+
+// The first violation that a node or an edge makes by itself.
+fn first_alone(order: &ClassOrder<'_>, index: &EdgeIndex<'_>) -> Option<Violation>
+    requires { Fits order.now.problem.now index.now.graph.now }
+    ensures { result ≡ option_or (first_class order.now.problem.now index.now.graph.now)
+        (option_or (first_edge order.now.problem.now index.now.graph.now)
+        (first_opposite order.now.problem.now index.now.graph.now)) }
+{
+    let class = first_class(order.problem, index.graph);
+    if class.is_some() {
+        return class;
+    }
+    let edge = first_edge(order, index.graph);
+    if edge.is_some() {
+        return edge;
+    }
+    first_opposite(order.problem, index)
+}
+
+// The first violation of how many edges nodes have, and of what contains what.
+fn first_of_edges(
+    alloc: Global,
+    order: &ClassOrder<'_>,
+    graph: &Graph,
+) -> Result<Option<Violation>, AllocError>
+    requires { Fits order.now.problem.now graph.now }
+    ensures { IfOk result (λ v. v ≡ option_or (first_degree order.now.problem.now graph.now)
+        (option_or (first_containers order.now.problem.now graph.now)
+        (first_cycle order.now.problem.now graph.now))) }
+{
+    let degree = first_degree(alloc, order, graph)?;
+    if degree.is_some() {
+        return Ok(degree);
+    }
+    let containers = first_containers(alloc, order.problem, graph)?;
+    if containers.is_some() {
+        return Ok(containers);
+    }
+    first_cycle(alloc, order.problem, graph)
+}
+
+// The first violation of what is stated of objects, of facts and of scopes.
+fn first_stated(
+    alloc: Global,
+    order: &ClassOrder<'_>,
+    index: &EdgeIndex<'_>,
+) -> Result<Option<Violation>, AllocError>
+    requires { Fits order.now.problem.now index.now.graph.now }
+    ensures { IfOk result (λ v. v ≡ option_or (first_object order.now.problem.now index.now.graph.now)
+        (option_or (first_asserted order.now.problem.now index.now.graph.now)
+        (first_scope order.now.problem.now index.now.graph.now))) }
+{
+    let object = first_object(alloc, order.problem, index.graph)?;
+    if object.is_some() {
+        return Ok(object);
+    }
+    let view = View::new(alloc, order, index)?;
+    let asserted = first_asserted(alloc, &view)?;
+    if asserted.is_some() {
+        return Ok(asserted);
+    }
+    Ok(first_scope(order, index.graph))
+}
+
+fn first_violation(
+    alloc: Global,
+    problem: &Problem,
+    graph: &Graph,
+) -> Result<Option<Violation>, AllocError>
+    requires { Fits problem.now graph.now }
+    ensures { IfOk result (λ v. v ≡ first_violation problem.now graph.now) }
+{
+    let order = problem.class_order(alloc)?;
+    let index = EdgeIndex::new(alloc, graph)?;
+    let alone = first_alone(&order, &index);
+    if alone.is_some() {
+        return Ok(alone);
+    }
+    let edges = first_of_edges(alloc, &order, graph)?;
+    if edges.is_some() {
+        return Ok(edges);
+    }
+    first_stated(alloc, &order, &index)
+}
+
+/// Whether a graph that fits a problem satisfies it, and else the first of its violations.
+pub fn judge(alloc: Global, problem: &Problem, graph: &Graph) -> Result<Verdict, AllocError>
+    requires { Fits problem.now graph.now }
+    ensures verdict { IfOk result (IsVerdict problem.now graph.now) }
+    ensures satisfied { Sat problem.now graph.now → IfOk result (λ verdict. verdict ≡ Satisfied) }
+    ensures violated { (v : Violation) → FirstViolation problem.now graph.now v → IfOk result (λ verdict. verdict ≡ Violated v) }
+{
+    match first_violation(alloc, problem, graph)? {
+        Some(violation) => Ok(Verdict::Violated(violation)),
+        None => Ok(Verdict::Satisfied),
+    }
+}

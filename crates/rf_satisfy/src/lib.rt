@@ -1,0 +1,34 @@
+//! Whether a graph satisfies a problem, and else its first violation.
+//!
+//! `judge` goes through the kinds of violation in their order, each in a module of its own, and each
+//! in about as many steps as there are nodes and edges.
+#![tactic(auto)]
+
+mod asserted;
+mod containers;
+mod cycle;
+mod degrees;
+mod edges;
+mod ends;
+mod evaluate;
+mod holders;
+mod judging;
+mod least;
+mod mirrors;
+mod node_lists;
+mod nodes;
+mod objects;
+mod peeling;
+mod places;
+mod pruning;
+mod scopes;
+mod steps;
+mod suspect_edges;
+mod suspects;
+mod tables;
+#[cfg(test)]
+mod tests;
+mod tuples;
+mod view;
+
+pub use judging::judge;
