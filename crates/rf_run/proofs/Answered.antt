@@ -1,7 +1,7 @@
 -- The answer to what is told, from the problem and the graph that were read.
 use Rattle.std.proofs.Common.{◌≡◌, ℕ, Bool, List, Option, Some, None, IfSome}
 use Rattle.rf_problem.specs.declared.problem.Problem.{Problem}
-use Rattle.rf_graph.specs.Satisfy.{IsVerdict}
+use Rattle.rf_graph.specs.Violations.{IsVerdict}
 use Rattle.rf_graph.specs.declared.graph.Graph.{Graph}
 use Rattle.rf_graph.specs.declared.verdict.Verdict.{Verdict}
 use Rattle.rf_run.specs.Answer.{Answers, IsAccepted, IsDrawn, verdict_text, is_yes}

@@ -1,21 +1,17 @@
 ghost use Rattle.std.specs.Prelude.{◌≡◌, ◌⊎◌, ◌↔◌, ℕ, List, None, Some, IfOk, IfErr, IfSome, IsErrOf, IsErrAnd, MatchResult};
 ghost use Rattle.rf_io.specs.Folder.{SameHeld, NoneFell};
-ghost use Rattle.rf_graph.specs.Fits.{Fits};
-ghost use Rattle.rf_graph.specs.Satisfy.{Sat, IsVerdict};
-ghost use Rattle.rf_graph.specs.declared.verdict.Verdict.{Verdict};
-ghost use Rattle.rf_run.specs.Answer.{Answers, IsAccepted, IsDrawn, IsPrintable, IsRight, verdict_text, is_yes};
+ghost use Rattle.rf_run.specs.Answer.{Answers, IsAccepted, IsDrawn, IsRight};
 ghost use Rattle.rf_run.specs.Refuse.{RefusesProblem, RefusesGraph, RefusesTold};
 ghost use Rattle.rf_run.specs.Stop.{IsCutShort};
 ghost use Rattle.rf_run.specs.Words.{FileRose, files_of, problem_told, graph_told};
 
 use crate::Refusal;
 use crate::file::{open_graph, open_problem};
+use crate::reply::{Reply, reply_to};
 use crate::words::command;
-use rf_graph::{Graph, Verdict, Violation, judge, push_object};
 use rf_io::Folder;
-use rf_problem::Problem;
 use rf_text::Text;
-use std::alloc::{AllocError, Global};
+use std::alloc::Global;
 
 /// Why there is no answer.
 #[derive(Clone, Copy, Debug, PartialEq, Eq)]
@@ -28,53 +24,6 @@ pub enum Stop {
     ReadFault,
     /// Memory ran out.
     Memory,
-}
-
-/// What is written on the output, and whether it is a yes.
-#[derive(Debug, Drop)]
-pub struct Reply {
-    pub text: Text,
-    pub is_yes: bool,
-}
-
-// A verdict as it is printed.
-fn print_verdict(alloc: Global, problem: &Problem, verdict: Verdict) -> Result<Text, AllocError>
-    requires { IsPrintable problem.now verdict }
-    ensures { IfOk result (λ text. text ≡ verdict_text problem.now verdict) }
-{
-    match verdict {
-        Verdict::Satisfied => Text::from_str(alloc, "satisfied\n"),
-        Verdict::Violated(Violation::Object(object)) => {
-            let mut text = Text::from_str(alloc, "violated object ")?;
-            push_object(alloc, &mut text, problem, object)?;
-            text.push_str("\n")?;
-            Ok(text)
-        }
-    }
-}
-
-fn is_yes(verdict: Verdict) -> bool
-    ensures { result ≡ is_yes verdict }
-{
-    match verdict {
-        Verdict::Satisfied => true,
-        Verdict::Violated(_) => false,
-    }
-}
-
-// The verdict on a graph, printed.
-fn reply_to(alloc: Global, problem: &Problem, graph: &Graph) -> Result<Reply, AllocError>
-    requires { Fits problem.now graph.now }
-    ensures judged { IfOk result (λ reply. (v : Verdict) × IsVerdict problem.now graph.now v × (reply.text ≡ verdict_text problem.now v) × (reply.is_yes ≡ is_yes v)) }
-    ensures right { IfOk result (λ reply. IsRight problem.now graph.now reply.is_yes) }
-    ensures same { (v : Verdict) → IsVerdict problem.now graph.now v → IfOk result (λ reply. (reply.text ≡ verdict_text problem.now v) × (reply.is_yes ≡ is_yes v)) }
-{
-    let verdict = judge(alloc, problem, graph)?;
-    let text = print_verdict(alloc, problem, verdict)?;
-    Ok(Reply {
-        text,
-        is_yes: is_yes(verdict),
-    })
 }
 
 /// The answer to the words over the files of a folder, computed whole.

@@ -2,7 +2,7 @@ ghost use Rattle.std.specs.Prelude.{◌≡◌, ◌⊎◌, ◌≤◌, ◌<◌, �
 ghost use Rattle.rf_io.specs.Causes.{Rose};
 ghost use Rattle.rf_io.specs.Folder.{SameHeld, NoneFell};
 ghost use Rattle.rf_graph.specs.BadLine.{IsBadLine};
-ghost use Rattle.rf_graph.specs.Fits.{Fits};
+ghost use Rattle.rf_graph.specs.Graph.{Fits};
 ghost use Rattle.rf_run.specs.Answer.{IsAccepted, IsDrawn, graph_limit};
 ghost use Rattle.rf_run.specs.Refuse.{RefusesProblem, RefusesFor, RefusesTold};
 ghost use Rattle.rf_run.specs.Stop.{IsCutShort};

@@ -7,6 +7,7 @@ mod answer;
 mod complain;
 mod file;
 mod refusal;
+mod reply;
 mod status;
 mod top;
 mod words;

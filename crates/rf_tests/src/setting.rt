@@ -6,8 +6,8 @@ use rf_text::Text;
 use std::alloc::{AllocError, Global};
 use std::process::Abort;
 
-/// How a run goes: how many bytes a read or a write moves at the most, and which calls fail, by their
-/// numbers from 0.
+/// How a run goes: how many bytes a read or a write moves at the most, and which calls fail, by
+/// their numbers from 0.
 #[derive(Drop)]
 pub struct Setting<'a> {
     pub step: u64,

@@ -1,0 +1,6 @@
+use Rattle.std.proofs.Common.{◌≡◌, ◌++◌, take}
+use Rattle.rf_run.specs.Answer.{spaced}
+use Rattle.rf_run.proofs.reply.push_spaced.Given as goal
+
+abbrev pub invariant-loop-number : goal.invariant-loop-number
+invariant-loop-number l = l.out ≡ l.initial.out ++ spaced (take l.number-index l.numbers)
