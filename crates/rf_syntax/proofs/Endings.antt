@@ -32,43 +32,45 @@ use Rattle.rf_syntax.specs.declared.statement.Bound.{Bound}
 use Rattle.rf_syntax.specs.declared.statement.Item.{Item}
 use Rattle.rf_syntax.specs.declared.statement.Statement.{Statement}
 use Rattle.rf_syntax.specs.declared.statement.Statement.TheVariants.{Class, Predicate, Declare, Multi, Scope, Assert}
-use Rattle.rf_syntax.specs.Assertion.{spelled_arg, spelled_assertion, spelled_atom, spelled_value}
-use Rattle.rf_syntax.specs.Class.{spelled_feature, spelled_feature_word, spelled_with_mult}
+use Rattle.rf_syntax.specs.Assertion.{arg_pieces, assertion_pieces, atom_pieces, value_pieces}
+use Rattle.rf_syntax.specs.Class.{feature_pieces, feature_word_pieces, with_mult_pieces}
 use Rattle.rf_syntax.specs.Laws.{EndsOnce, StatementEndsOnce, StatementsAreApart, ends_statement, first_of_statement}
-use Rattle.rf_syntax.specs.Name.{spelled_name, spelled_symbol}
+use Rattle.rf_syntax.specs.Name.{name_pieces, symbol_pieces}
+use Rattle.rf_syntax.specs.Piece.{Piece, kinds_of, terminal}
 use Rattle.rf_syntax.specs.Parts.{each_behind, flagged, in_parens, optional, optional_behind, separated, separated_or_none}
-use Rattle.rf_syntax.specs.Predicate.{spelled_clause, spelled_literal, spelled_param, spelled_start}
-use Rattle.rf_syntax.specs.Range.{spelled_mult, spelled_range, spelled_upper}
-use Rattle.rf_syntax.specs.Statement.{spelled_bound, spelled_item, spelled_statement}
-use Rattle.rf_syntax.specs.Terminals.{abstract_word, class_word, default_word, extends_word, opposite_word, bang, colon_colon, comma, dot, equal, left_brace, plus, plus_equal, right_brace, semicolon}
+use Rattle.rf_syntax.specs.Predicate.{clause_pieces, literal_pieces, param_pieces, start_pieces}
+use Rattle.rf_syntax.specs.Range.{mult_pieces, range_pieces, upper_pieces}
+use Rattle.rf_syntax.specs.Statement.{bound_pieces, item_pieces, spelled_statement}
+use Rattle.rf_syntax.specs.Terminals.{abstract_word, class_word, declare_word, default_word, extends_word, multi_word, opposite_word, scope_word, bang, colon_colon, comma, dot, equal, left_brace, plus, plus_equal, right_brace, semicolon}
 use Rattle.rf_syntax.proofs.Beginnings.{statement_begins}
+use Rattle.rf_syntax.proofs.Joined.{kinds_joined}
 
 -- whether a statement goes on behind a kind
 abbrev goes_on : Kind → Bool
 goes_on kind = not (ends_statement kind)
 
--- no statement ends within these kinds
-record Inside (kinds : List Kind) : Type 0 where
-  passed : list_all goes_on kinds ≡ true
+-- no statement ends within these pieces
+record Inside (pieces : List Piece) : Type 0 where
+  passed : list_all goes_on (kinds_of pieces) ≡ true
 
--- how lists of such kinds are made
+-- how lists of such pieces are made
 nothing : Inside []
 nothing = record { passed = refl }
 
-behind : {kind : Kind} {kinds : List Kind} → goes_on kind ≡ true → Inside kinds → Inside (kind ∷ kinds)
-behind {kind} {kinds} h rest = record { passed = and_from (goes_on kind) (list_all goes_on kinds) h rest.passed }
+behind : {piece : Piece} {pieces : List Piece} → goes_on piece.kind ≡ true → Inside pieces → Inside (piece ∷ pieces)
+behind {piece} {pieces} h rest = record { passed = and_from (goes_on piece.kind) (list_all goes_on (kinds_of pieces)) h rest.passed }
 
-alone : {kind : Kind} → goes_on kind ≡ true → Inside (kind ∷ [])
+alone : {piece : Piece} → goes_on piece.kind ≡ true → Inside (piece ∷ [])
 alone h = behind h nothing
 
 -- two of them joined are one
-all_joined : (xs ys : List Kind) → list_all goes_on xs ≡ true → list_all goes_on ys ≡ true → list_all goes_on (xs ++ ys) ≡ true
+all_joined : (xs ys : List Piece) → list_all goes_on (kinds_of xs) ≡ true → list_all goes_on (kinds_of ys) ≡ true → list_all goes_on (kinds_of (xs ++ ys)) ≡ true
 all_joined [] ys a b = b
 all_joined (x ∷ xs) ys a b =
-    let parts = and_parts (goes_on x) (list_all goes_on xs) a in
-    and_from (goes_on x) (list_all goes_on (xs ++ ys)) parts.0 (all_joined xs ys parts.1 b)
+    let parts = and_parts (goes_on x.kind) (list_all goes_on (kinds_of xs)) a in
+    and_from (goes_on x.kind) (list_all goes_on (kinds_of (xs ++ ys))) parts.0 (all_joined xs ys parts.1 b)
 
-join : {xs ys : List Kind} → Inside xs → Inside ys → Inside (xs ++ ys)
+join : {xs ys : List Piece} → Inside xs → Inside ys → Inside (xs ++ ys)
 join {xs} {ys} a b = record { passed = all_joined xs ys a.passed b.passed }
 
 -- the parts of which statements are made, from the smallest on
@@ -76,123 +78,129 @@ in_flagged : (flag : Bool) (kind : Kind) → goes_on kind ≡ true → Inside (f
 in_flagged true kind h = alone h
 in_flagged false kind h = nothing
 
-module _ {T : Type 0} {spelled : T → List Kind} (inner : (part : T) → Inside (spelled part)) where
-  in_optional : (part : Option T) → Inside (optional spelled part)
+module _ {T : Type 0} {pieces : T → List Piece} (inner : (part : T) → Inside (pieces part)) where
+  in_optional : (part : Option T) → Inside (optional pieces part)
   in_optional None = nothing
   in_optional (Some part) = inner part
 
-  in_optional_behind : (kind : Kind) → goes_on kind ≡ true → (part : Option T) → Inside (optional_behind kind spelled part)
+  in_optional_behind : (kind : Kind) → goes_on kind ≡ true → (part : Option T) → Inside (optional_behind kind pieces part)
   in_optional_behind kind h None = nothing
   in_optional_behind kind h (Some part) = behind h (inner part)
 
-  in_each : (parts : List T) → Inside (flat_map spelled parts)
+  in_each : (parts : List T) → Inside (flat_map pieces parts)
   in_each [] = nothing
   in_each (part ∷ parts) = join (inner part) (in_each parts)
 
-  in_each_behind : (kind : Kind) → goes_on kind ≡ true → (parts : List T) → Inside (each_behind kind spelled parts)
+  in_each_behind : (kind : Kind) → goes_on kind ≡ true → (parts : List T) → Inside (each_behind kind pieces parts)
   in_each_behind kind h [] = nothing
   in_each_behind kind h (part ∷ parts) = join (behind h (inner part)) (in_each_behind kind h parts)
 
-  in_separated : (kind : Kind) → goes_on kind ≡ true → (parts : NonEmpty T) → Inside (separated kind spelled parts)
+  in_separated : (kind : Kind) → goes_on kind ≡ true → (parts : NonEmpty T) → Inside (separated kind pieces parts)
   in_separated kind h parts = join (inner parts.first) (in_each_behind kind h parts.rest)
 
-  in_separated_or_none : (kind : Kind) → goes_on kind ≡ true → (parts : List T) → Inside (separated_or_none kind spelled parts)
+  in_separated_or_none : (kind : Kind) → goes_on kind ≡ true → (parts : List T) → Inside (separated_or_none kind pieces parts)
   in_separated_or_none kind h [] = nothing
   in_separated_or_none kind h (part ∷ parts) = join (inner part) (in_each_behind kind h parts)
 
-in_parentheses : {kinds : List Kind} → Inside kinds → Inside (in_parens kinds)
+in_parentheses : {inner : List Piece} → Inside inner → Inside (in_parens inner)
 in_parentheses h = join (behind refl h) (alone refl)
 
-in_name : (n : Name) → Inside (spelled_name n)
-in_name n = elim n.quoted as (λ q. Inside ((if q then Quoted n.text else Identifier n.text) ∷ [])) [ true ↦ alone refl | false ↦ alone refl ]
+in_name : (n : Name) → Inside (name_pieces n)
+in_name n = elim n.quoted as (λ q. Inside (record { kind = (if q then Quoted n.text else Identifier n.text); at = Some n.at } ∷ [])) [ true ↦ alone refl | false ↦ alone refl ]
 
-in_symbol : (s : SymbolName) → Inside (spelled_symbol s)
+in_symbol : (s : SymbolName) → Inside (symbol_pieces s)
 in_symbol s = join (in_name s.name) (in_optional_behind in_name colon_colon refl s.member)
 
-in_upper : (u : Upper) → Inside (spelled_upper u)
+in_upper : (u : Upper) → Inside (upper_pieces u)
 in_upper NoUpper = nothing
 in_upper StarUpper = behind refl (alone refl)
 in_upper (Number n) = behind refl (alone refl)
 
-in_range : (r : Range) → Inside (spelled_range r)
+in_range : (r : Range) → Inside (range_pieces r)
 in_range r = behind refl (in_upper r.hi)
 
-in_mult : (m : Mult) → Inside (spelled_mult m)
+in_mult : (m : Mult) → Inside (mult_pieces m)
 in_mult m = join (behind refl (in_optional in_range m.range)) (alone refl)
 
-in_feature_word : (w : FeatureWord) → Inside (spelled_feature_word w)
+in_feature_word : (w : FeatureWord) → Inside (feature_word_pieces w)
 in_feature_word Contains = alone refl
 in_feature_word Container = alone refl
 in_feature_word Refers = alone refl
 
-in_with_mult : (place : MultPlace) (name : Name) → Inside (spelled_with_mult place name)
+in_with_mult : (place : MultPlace) (name : Name) → Inside (with_mult_pieces place name)
 in_with_mult Absent name = in_name name
 in_with_mult (AfterType mult) name = join (in_mult mult) (in_name name)
 in_with_mult (AfterName mult) name = join (in_name name) (in_mult mult)
 
-in_feature : (f : Feature) → Inside (spelled_feature f)
+in_feature : (f : Feature) → Inside (feature_pieces f)
 in_feature f =
     let word = in_optional in_feature_word f.word in
     let named = join (join word (in_name f.target)) (in_with_mult f.mult f.name) in
     join (join named (in_optional_behind in_name opposite_word refl f.opposite)) (in_flagged f.semicolon semicolon refl)
 
-in_param : (p : Param) → Inside (spelled_param p)
+in_param : (p : Param) → Inside (param_pieces p)
 in_param p = join (in_optional in_name p.class) (in_name p.name)
 
-in_literal : (l : BodyLiteral) → Inside (spelled_literal l)
+in_literal : (l : BodyLiteral) → Inside (literal_pieces l)
 in_literal (Call negated symbol closure args) =
     join (join (join (in_flagged negated bang refl) (in_symbol symbol)) (in_flagged closure plus refl)) (in_parentheses (in_separated_or_none in_name comma refl args))
 in_literal (Same left right) = join (in_name left) (behind refl (in_name right))
 in_literal (Differ left right) = join (in_name left) (behind refl (in_name right))
 
-in_clause : (literals : NonEmpty BodyLiteral) → Inside (spelled_clause literals)
+in_clause : (literals : NonEmpty BodyLiteral) → Inside (clause_pieces literals)
 in_clause literals = in_separated in_literal comma refl literals
 
-in_start : (start : PredicateWord) → Inside (spelled_start start)
+in_start : (start : PredicateWord) → Inside (start_pieces start)
 in_start Pred = alone refl
 in_start Error = alone refl
 in_start ErrorPred = behind refl (alone refl)
 
-in_arg : (a : Arg) → Inside (spelled_arg a)
+in_arg : (a : Arg) → Inside (arg_pieces a)
 in_arg Star = alone refl
 in_arg (Symbol symbol) = in_symbol symbol
 
-in_atom : (a : AtomForm) → Inside (spelled_atom a)
+in_atom : (a : AtomForm) → Inside (atom_pieces a)
 in_atom a = join (in_symbol a.symbol) (in_parentheses (in_separated_or_none in_arg comma refl a.args))
 
-in_value : (v : ValueWord) → Inside (spelled_value v)
+in_value : (v : ValueWord) → Inside (value_pieces v)
 in_value True = alone refl
 in_value False = alone refl
 in_value Unknown = alone refl
 in_value ErrorValue = alone refl
 
-in_assertion : (a : AssertionForm) → Inside (spelled_assertion a)
+in_assertion : (a : AssertionForm) → Inside (assertion_pieces a)
 in_assertion (Plain atom) = in_atom atom
 in_assertion (Not atom) = behind refl (in_atom atom)
 in_assertion (Maybe atom) = behind refl (in_atom atom)
 in_assertion (Valued atom value) = join (in_atom atom) (behind refl (in_value value))
 
-in_item : (i : Item) → Inside (spelled_item i)
+in_item : (i : Item) → Inside (item_pieces i)
 in_item i = join (in_name i.name) (in_optional_behind in_range equal refl i.range)
 
 in_equal : (only_new : Bool) → goes_on (if only_new then plus_equal else equal) ≡ true
 in_equal true = refl
 in_equal false = refl
 
-in_bound : (b : Bound) → Inside (spelled_bound b)
+in_bound : (b : Bound) → Inside (bound_pieces b)
 in_bound b = join (in_name b.name) (behind (in_equal b.only_new) (in_range b.range))
 
--- kinds within a statement, and one that ends it
-ended_at : {kinds front : List Kind} (last : Kind) → kinds ≡ front ++ last ∷ [] → ends_statement last ≡ true → Inside front → EndsOnce kinds
-ended_at {kinds} {front} last e h inside = record { front = front; last = last; joined = e; inside = inside.passed; ended = h }
+-- pieces within a statement, and one that ends it
+ended_at : {pieces front : List Piece} (last : Kind) → pieces ≡ front ++ terminal last ∷ [] → ends_statement last ≡ true → Inside front → EndsOnce (kinds_of pieces)
+ended_at {pieces} {front} last e h inside = record {
+  front = kinds_of front;
+  last = last;
+  joined = ap (λ (ps : List Piece). kinds_of ps) e ∙ kinds_joined front (terminal last ∷ []);
+  inside = inside.passed;
+  ended = h;
+}
 
-ended : {front : List Kind} (last : Kind) → ends_statement last ≡ true → Inside front → EndsOnce (front ++ last ∷ [])
+ended : {front : List Piece} (last : Kind) → ends_statement last ≡ true → Inside front → EndsOnce (kinds_of (front ++ terminal last ∷ []))
 ended last h inside = ended_at last refl h inside
 
--- the kinds of a class in front of its body
-abbrev head_of_class : Bool → Name → Option (NonEmpty Name) → List Kind
+-- the pieces of a class in front of its body
+abbrev head_of_class : Bool → Name → Option (NonEmpty Name) → List Piece
 head_of_class is_abstract name supers =
-    flagged is_abstract abstract_word ++ class_word ∷ spelled_name name ++ optional_behind extends_word (separated comma spelled_name) supers
+    flagged is_abstract abstract_word ++ terminal class_word ∷ name_pieces name ++ optional_behind extends_word (separated comma name_pieces) supers
 
 in_head : (is_abstract : Bool) (name : Name) (supers : Option (NonEmpty Name)) → Inside (head_of_class is_abstract name supers)
 in_head is_abstract name supers =
@@ -201,16 +209,16 @@ in_head is_abstract name supers =
 pub statement_ends : StatementEndsOnce
 statement_ends (Class is_abstract name supers None) = ended dot refl (in_head is_abstract name supers)
 statement_ends (Class is_abstract name supers (Some features)) =
-    ended_at right_brace (sym (append_assoc (head_of_class is_abstract name supers) (left_brace ∷ flat_map spelled_feature features) (right_brace ∷ []))) refl
+    ended_at right_brace (sym (append_assoc (head_of_class is_abstract name supers) (terminal left_brace ∷ flat_map feature_pieces features) (terminal right_brace ∷ []))) refl
     (join (in_head is_abstract name supers) (behind refl (in_each in_feature features)))
 statement_ends (Predicate start name params clauses) =
     ended dot refl
     (join
     (join (join (in_start start) (in_name name)) (in_parentheses (in_separated_or_none in_param comma refl params)))
     (behind refl (in_separated in_clause semicolon refl clauses)))
-statement_ends (Declare names) = ended dot refl (behind refl (in_separated in_name comma refl names))
-statement_ends (Multi items) = ended dot refl (behind refl (in_separated in_item comma refl items))
-statement_ends (Scope bounds) = ended dot refl (behind refl (in_separated in_bound comma refl bounds))
+statement_ends (Declare names) = ended dot refl (behind {piece = terminal declare_word} refl (in_separated in_name comma refl names))
+statement_ends (Multi items) = ended dot refl (behind {piece = terminal multi_word} refl (in_separated in_item comma refl items))
+statement_ends (Scope bounds) = ended dot refl (behind {piece = terminal scope_word} refl (in_separated in_bound comma refl bounds))
 statement_ends (Assert is_default assertion) = ended dot refl (join (in_flagged is_default default_word refl) (in_assertion assertion))
 
 -- no kind both ends a statement and goes on

@@ -1,2 +1,3 @@
-mod Beginnings
+pub mod Beginnings
 mod Endings
+pub mod Joined

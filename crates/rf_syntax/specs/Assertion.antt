@@ -1,5 +1,4 @@
 use Rattle.std.specs.Prelude.{List, [], ◌∷◌, ◌++◌}
-use Rattle.rf_lexer.specs.declared.token.Kind.{Kind}
 use Rattle.rf_syntax.specs.declared.assertion.Arg.{Arg}
 use Rattle.rf_syntax.specs.declared.assertion.Arg.TheVariants.{Star, Symbol}
 use Rattle.rf_syntax.specs.declared.assertion.AssertionForm.{AssertionForm}
@@ -7,29 +6,30 @@ use Rattle.rf_syntax.specs.declared.assertion.AssertionForm.TheVariants.{Plain, 
 use Rattle.rf_syntax.specs.declared.assertion.AtomForm.{AtomForm}
 use Rattle.rf_syntax.specs.declared.assertion.ValueWord.{ValueWord}
 use Rattle.rf_syntax.specs.declared.assertion.ValueWord.TheVariants.{True, False, Unknown, Error}
-use Rattle.rf_syntax.specs.Name.{spelled_symbol}
+use Rattle.rf_syntax.specs.Name.{symbol_pieces}
 use Rattle.rf_syntax.specs.Parts.{separated_or_none, in_parens}
+use Rattle.rf_syntax.specs.Piece.{Piece, terminal}
 use Rattle.rf_syntax.specs.Terminals.{error_word, false_word, true_word, unknown_word, bang, colon, comma, question, star}
 
 -- arg = "*" | symbol
-abbrev pub spelled_arg : Arg → List Kind
-spelled_arg Star = star ∷ []
-spelled_arg (Symbol symbol) = spelled_symbol symbol
+abbrev pub arg_pieces : Arg → List Piece
+arg_pieces Star = terminal star ∷ []
+arg_pieces (Symbol symbol) = symbol_pieces symbol
 
 -- atom = symbol "(" [ arg { "," arg } ] ")"
-abbrev pub spelled_atom : AtomForm → List Kind
-spelled_atom a = spelled_symbol a.symbol ++ in_parens (separated_or_none comma spelled_arg a.args)
+abbrev pub atom_pieces : AtomForm → List Piece
+atom_pieces a = symbol_pieces a.symbol ++ in_parens (separated_or_none comma arg_pieces a.args)
 
 -- value = "true" | "false" | "unknown" | "error"
-abbrev pub spelled_value : ValueWord → List Kind
-spelled_value True = true_word ∷ []
-spelled_value False = false_word ∷ []
-spelled_value Unknown = unknown_word ∷ []
-spelled_value Error = error_word ∷ []
+abbrev pub value_pieces : ValueWord → List Piece
+value_pieces True = terminal true_word ∷ []
+value_pieces False = terminal false_word ∷ []
+value_pieces Unknown = terminal unknown_word ∷ []
+value_pieces Error = terminal error_word ∷ []
 
 -- assertion = [ "!" | "?" ] atom | atom ":" value
-abbrev pub spelled_assertion : AssertionForm → List Kind
-spelled_assertion (Plain atom) = spelled_atom atom
-spelled_assertion (Not atom) = bang ∷ spelled_atom atom
-spelled_assertion (Maybe atom) = question ∷ spelled_atom atom
-spelled_assertion (Valued atom value) = spelled_atom atom ++ colon ∷ spelled_value value
+abbrev pub assertion_pieces : AssertionForm → List Piece
+assertion_pieces (Plain atom) = atom_pieces atom
+assertion_pieces (Not atom) = terminal bang ∷ atom_pieces atom
+assertion_pieces (Maybe atom) = terminal question ∷ atom_pieces atom
+assertion_pieces (Valued atom value) = atom_pieces atom ++ terminal colon ∷ value_pieces value

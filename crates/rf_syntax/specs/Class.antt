@@ -1,6 +1,5 @@
 use Rattle.std.specs.Prelude.{Bool, List, [], ◌∷◌, ◌++◌, Option, None, Some}
 use Rattle.std.specs.List.{flat_map}
-use Rattle.rf_lexer.specs.declared.token.Kind.{Kind}
 use Rattle.rf_syntax.specs.declared.class.Feature.{Feature}
 use Rattle.rf_syntax.specs.declared.class.FeatureWord.{FeatureWord}
 use Rattle.rf_syntax.specs.declared.class.FeatureWord.TheVariants.{Contains, Container, Refers}
@@ -8,42 +7,45 @@ use Rattle.rf_syntax.specs.declared.class.MultPlace.{MultPlace}
 use Rattle.rf_syntax.specs.declared.class.MultPlace.TheVariants.{Absent, AfterType, AfterName}
 use Rattle.rf_syntax.specs.declared.list.List.{List as NonEmpty}
 use Rattle.rf_syntax.specs.declared.name.Name.{Name}
-use Rattle.rf_syntax.specs.Name.{spelled_name}
+use Rattle.rf_syntax.specs.Name.{name_pieces}
 use Rattle.rf_syntax.specs.Parts.{flagged, optional, optional_behind, separated}
-use Rattle.rf_syntax.specs.Range.{spelled_mult}
+use Rattle.rf_syntax.specs.Piece.{Piece, terminal}
+use Rattle.rf_syntax.specs.Range.{mult_pieces}
 use Rattle.rf_syntax.specs.Terminals.{abstract_word, class_word, contains_word, container_word, extends_word, opposite_word, refers_word, comma, dot, left_brace, right_brace, semicolon}
 
 -- "contains" | "container" | "refers"
-abbrev pub spelled_feature_word : FeatureWord → List Kind
-spelled_feature_word Contains = contains_word ∷ []
-spelled_feature_word Container = container_word ∷ []
-spelled_feature_word Refers = refers_word ∷ []
+abbrev pub feature_word_pieces : FeatureWord → List Piece
+feature_word_pieces Contains = terminal contains_word ∷ []
+feature_word_pieces Container = terminal container_word ∷ []
+feature_word_pieces Refers = terminal refers_word ∷ []
 
 -- [ mult ] NAME | NAME mult
-abbrev pub spelled_with_mult : MultPlace → Name → List Kind
-spelled_with_mult Absent name = spelled_name name
-spelled_with_mult (AfterType mult) name = spelled_mult mult ++ spelled_name name
-spelled_with_mult (AfterName mult) name = spelled_name name ++ spelled_mult mult
+abbrev pub with_mult_pieces : MultPlace → Name → List Piece
+with_mult_pieces Absent name = name_pieces name
+with_mult_pieces (AfterType mult) name = mult_pieces mult ++ name_pieces name
+with_mult_pieces (AfterName mult) name = name_pieces name ++ mult_pieces mult
 
 -- feature = [ "contains" | "container" | "refers" ] NAME ( [ mult ] NAME | NAME mult )
 --           [ "opposite" NAME ] [ ";" ]
-abbrev pub spelled_feature : Feature → List Kind
-spelled_feature f =
-    optional spelled_feature_word f.word
-    ++ spelled_name f.target
-    ++ spelled_with_mult f.mult f.name
-    ++ optional_behind opposite_word spelled_name f.opposite
+abbrev pub feature_pieces : Feature → List Piece
+feature_pieces f =
+    optional feature_word_pieces f.word
+    ++ name_pieces f.target
+    ++ with_mult_pieces f.mult f.name
+    ++ optional_behind opposite_word name_pieces f.opposite
     ++ flagged f.semicolon semicolon
 
 -- "." | "{" { feature } "}"
-abbrev pub spelled_body : Option (List Feature) → List Kind
-spelled_body None = dot ∷ []
-spelled_body (Some features) = left_brace ∷ flat_map spelled_feature features ++ right_brace ∷ []
+abbrev pub body_pieces : Option (List Feature) → List Piece
+body_pieces None = terminal dot ∷ []
+body_pieces (Some features) =
+    terminal left_brace ∷ flat_map feature_pieces features ++ terminal right_brace ∷ []
 
 -- [ "abstract" ] "class" NAME [ "extends" NAME { "," NAME } ] ( "." | "{" { feature } "}" )
-abbrev pub spelled_class : Bool → Name → Option (NonEmpty Name) → Option (List Feature) → List Kind
-spelled_class is_abstract name supers body =
+abbrev pub class_pieces :
+    Bool → Name → Option (NonEmpty Name) → Option (List Feature) → List Piece
+class_pieces is_abstract name supers body =
     flagged is_abstract abstract_word
-    ++ class_word ∷ spelled_name name
-    ++ optional_behind extends_word (separated comma spelled_name) supers
-    ++ spelled_body body
+    ++ terminal class_word ∷ name_pieces name
+    ++ optional_behind extends_word (separated comma name_pieces) supers
+    ++ body_pieces body

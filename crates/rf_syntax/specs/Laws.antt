@@ -29,12 +29,14 @@ first_of_predicate ErrorPred = error_word
 
 -- the kind with which a statement begins
 abbrev pub first_of_statement : Statement → Kind
-first_of_statement (Class is_abstract name supers body) = (if is_abstract then abstract_word else class_word)
+first_of_statement (Class is_abstract name supers body) =
+    (if is_abstract then abstract_word else class_word)
 first_of_statement (Predicate start name params clauses) = first_of_predicate start
 first_of_statement (Declare names) = declare_word
 first_of_statement (Multi items) = multi_word
 first_of_statement (Scope bounds) = scope_word
-first_of_statement (Assert is_default assertion) = (if is_default then default_word else first_of_assertion assertion)
+first_of_statement (Assert is_default assertion) =
+    (if is_default then default_word else first_of_assertion assertion)
 
 -- whether a kind ends a statement: a full stop, or a closing brace
 abbrev pub ends_statement : Kind → Bool
@@ -52,13 +54,15 @@ pub record EndsOnce (kinds : List Kind) : Type 0 where
 
 -- the spelling of a statement isn't empty, and begins with this kind
 abbrev pub StatementBegins : Type 0
-StatementBegins = (s : Statement) → (rest : List Kind) × (spelled_statement s ≡ first_of_statement s ∷ rest)
+StatementBegins =
+    (s : Statement) → (rest : List Kind) × (spelled_statement s ≡ first_of_statement s ∷ rest)
 
 -- a statement goes as far as the first kind that ends one
 abbrev pub StatementEndsOnce : Type 0
 StatementEndsOnce = (s : Statement) → EndsOnce (spelled_statement s)
 
--- where the statements of two lists have the same kinds one after another, they have them one by one
+-- where the statements of two lists have the same kinds one after another, they have them one by
+-- one
 abbrev pub StatementsAreApart : Type 0
 StatementsAreApart =
     (ss ts : List Statement)

@@ -3,6 +3,7 @@ pub mod Class
 pub mod Laws
 pub mod Name
 pub mod Parts
+pub mod Piece
 pub mod Predicate
 pub mod Range
 pub mod Statement

@@ -1,9 +1,10 @@
-use Rattle.std.specs.Prelude.{List, [], ◌∷◌, ◌++◌, if◌then◌else◌}
+use Rattle.std.specs.Prelude.{List, [], ◌∷◌, ◌++◌, Some, if◌then◌else◌}
 use Rattle.rf_lexer.specs.declared.token.Kind.{Kind}
 use Rattle.rf_lexer.specs.declared.token.Kind.TheVariants.{Quoted, Name as Identifier}
 use Rattle.rf_syntax.specs.declared.name.Name.{Name}
 use Rattle.rf_syntax.specs.declared.name.SymbolName.{SymbolName}
 use Rattle.rf_syntax.specs.Parts.{optional_behind}
+use Rattle.rf_syntax.specs.Piece.{Piece}
 use Rattle.rf_syntax.specs.Terminals.{colon_colon}
 
 -- an identifier that is no keyword, or a quoted name
@@ -11,9 +12,9 @@ abbrev pub kind_of_name : Name → Kind
 kind_of_name n = (if n.quoted then Quoted n.text else Identifier n.text)
 
 -- NAME
-abbrev pub spelled_name : Name → List Kind
-spelled_name n = kind_of_name n ∷ []
+abbrev pub name_pieces : Name → List Piece
+name_pieces n = record { kind = kind_of_name n; at = Some n.at } ∷ []
 
 -- symbol = NAME [ "::" NAME ]
-abbrev pub spelled_symbol : SymbolName → List Kind
-spelled_symbol s = spelled_name s.name ++ optional_behind colon_colon spelled_name s.member
+abbrev pub symbol_pieces : SymbolName → List Piece
+symbol_pieces s = name_pieces s.name ++ optional_behind colon_colon name_pieces s.member

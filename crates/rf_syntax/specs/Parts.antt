@@ -1,38 +1,39 @@
--- How the spelling of a whole is made of those of its parts.
+-- How the pieces of a whole are made of those of its parts.
 use Rattle.std.specs.Prelude.{Bool, true, false, List, [], ◌∷◌, ◌++◌, Option, None, Some}
 use Rattle.std.specs.List.{flat_map}
 use Rattle.rf_lexer.specs.declared.token.Kind.{Kind}
 use Rattle.rf_syntax.specs.declared.list.List.{List as NonEmpty}
+use Rattle.rf_syntax.specs.Piece.{Piece, terminal}
 use Rattle.rf_syntax.specs.Terminals.{left_paren, right_paren}
 
 -- [ kind ]: the kind, where a flag is set
-abbrev pub flagged : Bool → Kind → List Kind
-flagged true kind = kind ∷ []
+abbrev pub flagged : Bool → Kind → List Piece
+flagged true kind = terminal kind ∷ []
 flagged false kind = []
 
 -- [ part ]
-abbrev pub optional : {T : Type 0} → (T → List Kind) → Option T → List Kind
-optional spelled None = []
-optional spelled (Some part) = spelled part
+abbrev pub optional : {T : Type 0} → (T → List Piece) → Option T → List Piece
+optional pieces None = []
+optional pieces (Some part) = pieces part
 
 -- [ kind part ]
-abbrev pub optional_behind : {T : Type 0} → Kind → (T → List Kind) → Option T → List Kind
-optional_behind kind spelled None = []
-optional_behind kind spelled (Some part) = kind ∷ spelled part
+abbrev pub optional_behind : {T : Type 0} → Kind → (T → List Piece) → Option T → List Piece
+optional_behind kind pieces None = []
+optional_behind kind pieces (Some part) = terminal kind ∷ pieces part
 
 -- { kind part }
-abbrev pub each_behind : {T : Type 0} → Kind → (T → List Kind) → List T → List Kind
-each_behind kind spelled parts = flat_map (λ part. kind ∷ spelled part) parts
+abbrev pub each_behind : {T : Type 0} → Kind → (T → List Piece) → List T → List Piece
+each_behind kind pieces parts = flat_map (λ part. terminal kind ∷ pieces part) parts
 
 -- part { kind part }
-abbrev pub separated : {T : Type 0} → Kind → (T → List Kind) → NonEmpty T → List Kind
-separated kind spelled parts = spelled parts.first ++ each_behind kind spelled parts.rest
+abbrev pub separated : {T : Type 0} → Kind → (T → List Piece) → NonEmpty T → List Piece
+separated kind pieces parts = pieces parts.first ++ each_behind kind pieces parts.rest
 
 -- [ part { kind part } ]
-abbrev pub separated_or_none : {T : Type 0} → Kind → (T → List Kind) → List T → List Kind
-separated_or_none kind spelled [] = []
-separated_or_none kind spelled (part ∷ parts) = spelled part ++ each_behind kind spelled parts
+abbrev pub separated_or_none : {T : Type 0} → Kind → (T → List Piece) → List T → List Piece
+separated_or_none kind pieces [] = []
+separated_or_none kind pieces (part ∷ parts) = pieces part ++ each_behind kind pieces parts
 
 -- "(" inner ")"
-abbrev pub in_parens : List Kind → List Kind
-in_parens inner = left_paren ∷ inner ++ right_paren ∷ []
+abbrev pub in_parens : List Piece → List Piece
+in_parens inner = terminal left_paren ∷ inner ++ terminal right_paren ∷ []

@@ -1,4 +1,5 @@
--- The terminals of the grammar: the words and marks of which statements are made, each as a kind of token.
+-- The terminals of the grammar: the words and marks of which statements are made, each as a kind of
+-- token.
 use Rattle.std.specs.Prelude.{ℕ}
 use Rattle.rf_lexer.specs.declared.keyword.Keyword.TheVariants.{Abstract, Class, Container, Contains, Declare, Default, Error, Extends, False, Multi, Opposite, Pred, Refers, Scope, True, Unknown}
 use Rattle.rf_lexer.specs.declared.mark.Mark.TheVariants.{Dot, DotDot, Comma, Semicolon, Colon, ColonColon, LeftParen, RightParen, LeftBracket, RightBracket, LeftBrace, RightBrace, Bang, Question, Star, Plus, Equal, PlusEqual, EqualEqual, BangEqual, Iff}

@@ -1,4 +1,5 @@
-//! What a reader of token kinds can rely on, each law as the contract of a function that does nothing.
+//! What a reader of token kinds can rely on, each law as the contract of a function that does
+//! nothing.
 
 ghost use Rattle.rf_syntax.specs.Laws.{StatementBegins, StatementEndsOnce, StatementsAreApart};
 

@@ -1,5 +1,6 @@
-//! The statement tree of problem texts, and its spelling: the kinds of the tokens that a tree stands for.
-#![tactic(auto)]
+//! The statement tree of problem texts, and its spelling: the kinds of the tokens that a tree
+//! stands for.
+#![tactic(auto, using(crate::proofs::Joined::kinds_joined))]
 
 mod assertion;
 mod class;

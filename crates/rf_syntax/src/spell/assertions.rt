@@ -1,4 +1,4 @@
-ghost use Rattle.rf_syntax.specs.Assertion.{spelled_arg, spelled_assertion, spelled_atom, spelled_value};
+ghost use Rattle.rf_syntax.specs.Assertion.{arg_pieces, assertion_pieces, atom_pieces, value_pieces};
 
 use super::parts::{push_mark, push_word};
 use super::predicates::push_in_parens;
@@ -8,7 +8,7 @@ use rf_lexer::{Keyword, Kind, Mark};
 use std::alloc::AllocError;
 
 impl Production for Arg {
-    ghost kinds = { spelled_arg };
+    ghost pieces = { arg_pieces };
 
     fn push_to(&self, out: &mut Vec<Kind>) -> Result<(), AllocError> {
         match self {
@@ -19,7 +19,7 @@ impl Production for Arg {
 }
 
 impl Production for AtomForm {
-    ghost kinds = { spelled_atom };
+    ghost pieces = { atom_pieces };
 
     fn push_to(&self, out: &mut Vec<Kind>) -> Result<(), AllocError> {
         self.symbol.push_to(out)?;
@@ -28,7 +28,7 @@ impl Production for AtomForm {
 }
 
 impl Production for ValueWord {
-    ghost kinds = { spelled_value };
+    ghost pieces = { value_pieces };
 
     fn push_to(&self, out: &mut Vec<Kind>) -> Result<(), AllocError> {
         match *self {
@@ -41,7 +41,7 @@ impl Production for ValueWord {
 }
 
 impl Production for AssertionForm {
-    ghost kinds = { spelled_assertion };
+    ghost pieces = { assertion_pieces };
 
     fn push_to(&self, out: &mut Vec<Kind>) -> Result<(), AllocError> {
         match self {

@@ -1,5 +1,6 @@
 ghost use Rattle.std.specs.Prelude.{◌≡◌, ◌++◌, OnOk};
-ghost use Rattle.rf_syntax.specs.Class.{spelled_body, spelled_class, spelled_feature, spelled_feature_word, spelled_with_mult};
+ghost use Rattle.rf_syntax.specs.Piece.{kinds_of};
+ghost use Rattle.rf_syntax.specs.Class.{body_pieces, class_pieces, feature_pieces, feature_word_pieces, with_mult_pieces};
 
 use super::parts::{
     push_each, push_flagged, push_mark, push_optional, push_optional_behind, push_word,
@@ -11,7 +12,7 @@ use rf_text::Items;
 use std::alloc::AllocError;
 
 impl Production for FeatureWord {
-    ghost kinds = { spelled_feature_word };
+    ghost pieces = { feature_word_pieces };
 
     fn push_to(&self, out: &mut Vec<Kind>) -> Result<(), AllocError> {
         match *self {
@@ -24,7 +25,9 @@ impl Production for FeatureWord {
 
 // Appends a reference's name with its multiplicity.
 fn push_with_mult(out: &mut Vec<Kind>, place: &MultPlace, name: &Name) -> Result<(), AllocError>
-    ensures { OnOk result (out.new.items ≡ out.old.items ++ spelled_with_mult place.now name.now) }
+    ensures { OnOk result (
+        out.new.items
+        ≡ out.old.items ++ kinds_of (with_mult_pieces place.now name.now)) }
 {
     match place {
         MultPlace::Absent => name.push_to(out),
@@ -40,7 +43,7 @@ fn push_with_mult(out: &mut Vec<Kind>, place: &MultPlace, name: &Name) -> Result
 }
 
 impl Production for Feature {
-    ghost kinds = { spelled_feature };
+    ghost pieces = { feature_pieces };
 
     fn push_to(&self, out: &mut Vec<Kind>) -> Result<(), AllocError> {
         push_optional(out, &self.word)?;
@@ -53,7 +56,7 @@ impl Production for Feature {
 
 // Appends the full stop or the features between braces.
 fn push_body(out: &mut Vec<Kind>, body: &Option<Items<Feature>>) -> Result<(), AllocError>
-    ensures { OnOk result (out.new.items ≡ out.old.items ++ spelled_body body.now) }
+    ensures { OnOk result (out.new.items ≡ out.old.items ++ kinds_of (body_pieces body.now)) }
 {
     match body {
         None => push_mark(out, Mark::Dot),
@@ -72,7 +75,9 @@ pub fn push_class(
     supers: &Option<List<Name>>,
     body: &Option<Items<Feature>>,
 ) -> Result<(), AllocError>
-    ensures { OnOk result (out.new.items ≡ out.old.items ++ spelled_class is_abstract name.now supers.now body.now) }
+    ensures { OnOk result (
+        out.new.items
+        ≡ out.old.items ++ kinds_of (class_pieces is_abstract name.now supers.now body.now)) }
 {
     push_flagged(out, is_abstract, Kind::Word(Keyword::Abstract))?;
     push_word(out, Keyword::Class)?;

@@ -1,5 +1,5 @@
 ghost use Rattle.std.specs.Prelude.{◌≡◌, IfOk};
-ghost use Rattle.rf_syntax.specs.Name.{kind_of_name, spelled_name, spelled_symbol};
+ghost use Rattle.rf_syntax.specs.Name.{kind_of_name, name_pieces, symbol_pieces};
 
 use super::parts::{push_kind, push_optional_behind};
 use super::production::Production;
@@ -19,7 +19,7 @@ fn kind_of(name: &Name) -> Result<Kind, AllocError>
 }
 
 impl Production for Name {
-    ghost kinds = { spelled_name };
+    ghost pieces = { name_pieces };
 
     fn push_to(&self, out: &mut Vec<Kind>) -> Result<(), AllocError> {
         push_kind(out, kind_of(self)?)
@@ -27,7 +27,7 @@ impl Production for Name {
 }
 
 impl Production for SymbolName {
-    ghost kinds = { spelled_symbol };
+    ghost pieces = { symbol_pieces };
 
     fn push_to(&self, out: &mut Vec<Kind>) -> Result<(), AllocError> {
         self.name.push_to(out)?;

@@ -1,6 +1,7 @@
 ghost use Rattle.std.specs.Prelude.{◌≡◌, ◌++◌, ◌∷◌, [], OnOk};
 ghost use Rattle.std.specs.List.{flat_map};
 ghost use Rattle.rf_syntax.specs.Parts.{each_behind, flagged, optional, optional_behind, separated, separated_or_none};
+ghost use Rattle.rf_syntax.specs.Piece.{kinds_of};
 ghost use Rattle.rf_syntax.specs.Terminals.{comma};
 
 use super::production::Production;
@@ -29,13 +30,13 @@ pub fn push_mark(out: &mut Vec<Kind>, mark: Mark) -> Result<(), AllocError>
 
 // Appends a kind where a flag is set.
 pub fn push_flagged(out: &mut Vec<Kind>, flag: bool, kind: Kind) -> Result<(), AllocError>
-    ensures { OnOk result (out.new.items ≡ out.old.items ++ flagged flag kind) }
+    ensures { OnOk result (out.new.items ≡ out.old.items ++ kinds_of (flagged flag kind)) }
 {
     if flag { push_kind(out, kind) } else { Ok(()) }
 }
 
 pub fn push_optional<T: Production>(out: &mut Vec<Kind>, part: &Option<T>) -> Result<(), AllocError>
-    ensures { OnOk result (out.new.items ≡ out.old.items ++ optional T.kinds part.now) }
+    ensures { OnOk result (out.new.items ≡ out.old.items ++ kinds_of (optional T.pieces part.now)) }
 {
     match part {
         None => Ok(()),
@@ -48,7 +49,9 @@ pub fn push_optional_behind<T: Production>(
     kind: Kind,
     part: &Option<T>,
 ) -> Result<(), AllocError>
-    ensures { OnOk result (out.new.items ≡ out.old.items ++ optional_behind kind T.kinds part.now) }
+    ensures { OnOk result (
+        out.new.items
+        ≡ out.old.items ++ kinds_of (optional_behind kind T.pieces part.now)) }
 {
     match part {
         None => Ok(()),
@@ -61,7 +64,9 @@ pub fn push_optional_behind<T: Production>(
 
 // Appends one part after another.
 pub fn push_each<T: Production>(out: &mut Vec<Kind>, parts: &[T]) -> Result<(), AllocError>
-    ensures { OnOk result (out.new.items ≡ out.old.items ++ flat_map T.kinds parts.now) }
+    ensures { OnOk result (
+        out.new.items
+        ≡ out.old.items ++ kinds_of (flat_map T.pieces parts.now)) }
 {
     for part in parts {
         part.push_to(out)?;
@@ -75,7 +80,9 @@ pub fn push_each_behind<T: Production>(
     mark: Mark,
     parts: &[T],
 ) -> Result<(), AllocError>
-    ensures { OnOk result (out.new.items ≡ out.old.items ++ each_behind (Kind.Mark mark) T.kinds parts.now) }
+    ensures { OnOk result (
+        out.new.items
+        ≡ out.old.items ++ kinds_of (each_behind (Kind.Mark mark) T.pieces parts.now)) }
 {
     for part in parts {
         push_mark(out, mark)?;
@@ -89,7 +96,9 @@ pub fn push_separated<T: Production>(
     mark: Mark,
     parts: &List<T>,
 ) -> Result<(), AllocError>
-    ensures { OnOk result (out.new.items ≡ out.old.items ++ separated (Kind.Mark mark) T.kinds parts.now) }
+    ensures { OnOk result (
+        out.new.items
+        ≡ out.old.items ++ kinds_of (separated (Kind.Mark mark) T.pieces parts.now)) }
 {
     parts.first.push_to(out)?;
     push_each_behind(out, mark, parts.rest.as_slice())
@@ -100,7 +109,9 @@ pub fn push_separated_or_none<T: Production>(
     mark: Mark,
     parts: &[T],
 ) -> Result<(), AllocError>
-    ensures { OnOk result (out.new.items ≡ out.old.items ++ separated_or_none (Kind.Mark mark) T.kinds parts.now) }
+    ensures { OnOk result (
+        out.new.items
+        ≡ out.old.items ++ kinds_of (separated_or_none (Kind.Mark mark) T.pieces parts.now)) }
 {
     match parts {
         [] => Ok(()),
@@ -113,7 +124,7 @@ pub fn push_separated_or_none<T: Production>(
 
 // Where the grammar has a list of parts in one place, commas stand between them.
 impl<T: Production> Production for List<T> {
-    ghost kinds = { separated comma T.kinds };
+    ghost pieces = { separated comma T.pieces };
 
     fn push_to(&self, out: &mut Vec<Kind>) -> Result<(), AllocError> {
         push_separated(out, Mark::Comma, self)

@@ -1,8 +1,9 @@
-ghost use Rattle.std.specs.Prelude.{◌≡◌, ◌++◌, ◌∷◌, [], OnOk};
-ghost use Rattle.rf_syntax.specs.Parts.{flagged, in_parens, separated_or_none};
-ghost use Rattle.rf_syntax.specs.Name.{spelled_name, spelled_symbol};
-ghost use Rattle.rf_syntax.specs.Predicate.{spelled_literal, spelled_param, spelled_predicate, spelled_start};
-ghost use Rattle.rf_syntax.specs.Terminals.{bang, comma, plus};
+ghost use Rattle.std.specs.Prelude.{◌≡◌, ◌++◌, ◌∷◌, OnOk};
+ghost use Rattle.rf_syntax.specs.Parts.{in_parens, separated_or_none};
+ghost use Rattle.rf_syntax.specs.Name.{name_pieces};
+ghost use Rattle.rf_syntax.specs.Piece.{kinds_of, terminal};
+ghost use Rattle.rf_syntax.specs.Predicate.{literal_pieces, param_pieces, predicate_pieces, start_pieces};
+ghost use Rattle.rf_syntax.specs.Terminals.{comma};
 
 use super::parts::{
     push_flagged, push_mark, push_optional, push_separated, push_separated_or_none, push_word,
@@ -14,7 +15,7 @@ use rf_text::Items;
 use std::alloc::AllocError;
 
 impl Production for PredicateWord {
-    ghost kinds = { spelled_start };
+    ghost pieces = { start_pieces };
 
     fn push_to(&self, out: &mut Vec<Kind>) -> Result<(), AllocError> {
         match *self {
@@ -29,7 +30,7 @@ impl Production for PredicateWord {
 }
 
 impl Production for Param {
-    ghost kinds = { spelled_param };
+    ghost pieces = { param_pieces };
 
     fn push_to(&self, out: &mut Vec<Kind>) -> Result<(), AllocError> {
         push_optional(out, &self.class)?;
@@ -39,7 +40,9 @@ impl Production for Param {
 
 // Appends a list that may be empty, with commas between its parts, in parentheses.
 pub fn push_in_parens<T: Production>(out: &mut Vec<Kind>, parts: &[T]) -> Result<(), AllocError>
-    ensures { OnOk result (out.new.items ≡ out.old.items ++ in_parens (separated_or_none comma T.kinds parts.now)) }
+    ensures { OnOk result (
+        out.new.items
+        ≡ out.old.items ++ kinds_of (in_parens (separated_or_none comma T.pieces parts.now))) }
 {
     push_mark(out, Mark::LeftParen)?;
     push_separated_or_none(out, Mark::Comma, parts)?;
@@ -54,7 +57,10 @@ fn push_call(
     closure: bool,
     args: &[Name],
 ) -> Result<(), AllocError>
-    ensures { OnOk result (out.new.items ≡ out.old.items ++ (flagged negated bang ++ spelled_symbol symbol.now ++ flagged closure plus ++ in_parens (separated_or_none comma spelled_name args.now))) }
+    ensures { OnOk result (
+        out.new.items
+        ≡ out.old.items
+        ++ kinds_of (literal_pieces (BodyLiteral.Call negated symbol.now closure args.now))) }
 {
     push_flagged(out, negated, Kind::Mark(Mark::Bang))?;
     symbol.push_to(out)?;
@@ -64,7 +70,10 @@ fn push_call(
 
 // Appends two names and the mark between them.
 fn push_pair(out: &mut Vec<Kind>, left: &Name, mark: Mark, right: &Name) -> Result<(), AllocError>
-    ensures { OnOk result (out.new.items ≡ out.old.items ++ (spelled_name left.now ++ Kind.Mark mark ∷ spelled_name right.now)) }
+    ensures { OnOk result (
+        out.new.items
+        ≡ out.old.items
+        ++ kinds_of (name_pieces left.now ++ terminal (Kind.Mark mark) ∷ name_pieces right.now)) }
 {
     left.push_to(out)?;
     push_mark(out, mark)?;
@@ -72,7 +81,7 @@ fn push_pair(out: &mut Vec<Kind>, left: &Name, mark: Mark, right: &Name) -> Resu
 }
 
 impl Production for BodyLiteral {
-    ghost kinds = { spelled_literal };
+    ghost pieces = { literal_pieces };
 
     fn push_to(&self, out: &mut Vec<Kind>) -> Result<(), AllocError> {
         match self {
@@ -95,7 +104,9 @@ pub fn push_predicate(
     params: &Items<Param>,
     clauses: &List<List<BodyLiteral>>,
 ) -> Result<(), AllocError>
-    ensures { OnOk result (out.new.items ≡ out.old.items ++ spelled_predicate start name.now params.now clauses.now) }
+    ensures { OnOk result (
+        out.new.items
+        ≡ out.old.items ++ kinds_of (predicate_pieces start name.now params.now clauses.now)) }
 {
     start.push_to(out)?;
     name.push_to(out)?;

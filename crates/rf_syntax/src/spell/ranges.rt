@@ -1,4 +1,4 @@
-ghost use Rattle.rf_syntax.specs.Range.{spelled_mult, spelled_range, spelled_upper};
+ghost use Rattle.rf_syntax.specs.Range.{mult_pieces, range_pieces, upper_pieces};
 
 use super::parts::{push_kind, push_mark, push_optional};
 use super::production::Production;
@@ -7,7 +7,7 @@ use rf_lexer::{Kind, Mark};
 use std::alloc::AllocError;
 
 impl Production for Upper {
-    ghost kinds = { spelled_upper };
+    ghost pieces = { upper_pieces };
 
     fn push_to(&self, out: &mut Vec<Kind>) -> Result<(), AllocError> {
         match *self {
@@ -25,7 +25,7 @@ impl Production for Upper {
 }
 
 impl Production for Range {
-    ghost kinds = { spelled_range };
+    ghost pieces = { range_pieces };
 
     fn push_to(&self, out: &mut Vec<Kind>) -> Result<(), AllocError> {
         push_kind(out, Kind::Number(self.lo))?;
@@ -34,7 +34,7 @@ impl Production for Range {
 }
 
 impl Production for Mult {
-    ghost kinds = { spelled_mult };
+    ghost pieces = { mult_pieces };
 
     fn push_to(&self, out: &mut Vec<Kind>) -> Result<(), AllocError> {
         push_mark(out, Mark::LeftBracket)?;

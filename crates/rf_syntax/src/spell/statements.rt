@@ -1,8 +1,8 @@
 ghost use Rattle.std.specs.Prelude.{◌≡◌, ◌++◌, ◌∷◌, [], OnOk};
-ghost use Rattle.rf_syntax.specs.Assertion.{spelled_assertion};
-ghost use Rattle.rf_syntax.specs.Parts.{flagged, separated};
-ghost use Rattle.rf_syntax.specs.Statement.{spelled_bound, spelled_item, spelled_statement};
-ghost use Rattle.rf_syntax.specs.Terminals.{comma, default_word, dot};
+ghost use Rattle.rf_syntax.specs.Parts.{separated};
+ghost use Rattle.rf_syntax.specs.Piece.{kinds_of, terminal};
+ghost use Rattle.rf_syntax.specs.Statement.{bound_pieces, item_pieces, statement_pieces};
+ghost use Rattle.rf_syntax.specs.Terminals.{comma, dot};
 
 use super::classes::push_class;
 use super::parts::{push_flagged, push_mark, push_optional_behind, push_word};
@@ -13,7 +13,7 @@ use rf_lexer::{Keyword, Kind, Mark};
 use std::alloc::AllocError;
 
 impl Production for Item {
-    ghost kinds = { spelled_item };
+    ghost pieces = { item_pieces };
 
     fn push_to(&self, out: &mut Vec<Kind>) -> Result<(), AllocError> {
         self.name.push_to(out)?;
@@ -22,7 +22,7 @@ impl Production for Item {
 }
 
 impl Production for Bound {
-    ghost kinds = { spelled_bound };
+    ghost pieces = { bound_pieces };
 
     fn push_to(&self, out: &mut Vec<Kind>) -> Result<(), AllocError> {
         self.name.push_to(out)?;
@@ -42,7 +42,11 @@ fn push_list<T: Production>(
     word: Keyword,
     parts: &List<T>,
 ) -> Result<(), AllocError>
-    ensures { OnOk result (out.new.items ≡ out.old.items ++ (Kind.Word word ∷ separated comma T.kinds parts.now ++ dot ∷ [])) }
+    ensures { OnOk result (
+        out.new.items
+        ≡ out.old.items
+        ++ kinds_of (
+        terminal (Kind.Word word) ∷ separated comma T.pieces parts.now ++ terminal dot ∷ [])) }
 {
     push_word(out, word)?;
     parts.push_to(out)?;
@@ -54,7 +58,10 @@ fn push_assertion(
     is_default: bool,
     assertion: &AssertionForm,
 ) -> Result<(), AllocError>
-    ensures { OnOk result (out.new.items ≡ out.old.items ++ (flagged is_default default_word ++ spelled_assertion assertion.now ++ dot ∷ [])) }
+    ensures { OnOk result (
+        out.new.items
+        ≡ out.old.items
+        ++ kinds_of (statement_pieces (Statement.Assert is_default assertion.now))) }
 {
     push_flagged(out, is_default, Kind::Word(Keyword::Default))?;
     assertion.push_to(out)?;
@@ -62,7 +69,7 @@ fn push_assertion(
 }
 
 impl Production for Statement {
-    ghost kinds = { spelled_statement };
+    ghost pieces = { statement_pieces };
 
     fn push_to(&self, out: &mut Vec<Kind>) -> Result<(), AllocError> {
         match self {

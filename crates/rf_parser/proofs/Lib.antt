@@ -1,0 +1,14 @@
+mod AssertionParts
+mod Beginnings
+mod ClassParts
+mod Fronts
+mod Lengths
+mod ListParts
+mod NameParts
+mod Optionals
+mod PredicateParts
+mod RangeParts
+mod Singles
+mod StatementParts
+mod TextParts
+mod Wholes

@@ -1,0 +1,92 @@
+-- What is read of lists of objects and bounds.
+use Rattle.std.proofs.Common.{◌≡◌, ◌⊎◌, Bool, true, false, List, [], Option, None, Some, inl, inr, refl, sym, ◌∙◌}
+use Rattle.rf_lexer.specs.declared.token.Kind.{Kind}
+use Rattle.rf_syntax.specs.declared.list.List.{List as NonEmpty}
+use Rattle.rf_syntax.specs.declared.name.Name.{Name}
+use Rattle.rf_syntax.specs.declared.range.Range.{Range}
+use Rattle.rf_syntax.specs.declared.range.Upper.TheVariants.{Absent}
+use Rattle.rf_syntax.specs.declared.statement.Bound.{Bound}
+use Rattle.rf_syntax.specs.declared.statement.Item.{Item}
+use Rattle.rf_syntax.specs.declared.statement.Statement.{Statement}
+use Rattle.rf_syntax.specs.declared.statement.Statement.TheVariants.{Class, Predicate, Declare, Multi, Scope, Assert}
+use Rattle.rf_syntax.specs.Name.{name_pieces}
+use Rattle.rf_syntax.specs.Parts.{optional_behind, separated}
+use Rattle.rf_syntax.specs.Piece.{Piece}
+use Rattle.rf_syntax.specs.Range.{range_pieces}
+use Rattle.rf_syntax.specs.Statement.{bound_pieces, item_pieces, statement_pieces}
+use Rattle.rf_syntax.specs.Terminals.{comma, declare_word, dot, dot_dot, equal, multi_word, plus_equal, scope_word}
+use Rattle.rf_parser.specs.Parts.{bound_mark, list_to_dot, single}
+use Rattle.rf_parser.specs.Reading.{either, never}
+use Rattle.rf_parser.proofs.Beginnings.{begun}
+use Rattle.rf_parser.proofs.NameParts.{a_name}
+use Rattle.rf_parser.proofs.Wholes.{Apart, Begins, IsCase, pair}
+
+pub a_range : Range
+a_range = record { at = 0; lo = 0; hi = Absent }
+
+pub item_case : (next : Option Kind)
+    → IsCase (pair name_pieces (optional_behind equal range_pieces)) (either equal (either dot_dot never)) item_pieces (either equal (either dot_dot never)) next (λ p. record { name = p.0; range = p.1 })
+item_case next = record { same = λ p. refl; ends = λ more h. h; cases = λ i. inl ((i.name, i.range), refl) }
+
+pub plus_equal_case : (next : Option Kind) → next ≡ Some plus_equal → IsCase (single plus_equal) never bound_mark never next (λ u. true)
+plus_equal_case next e = record { same = λ u. refl; ends = λ more h. h; cases = cases } where
+  cases : (b : Bool) → ((u : Unit {0}) × (true ≡ b)) ⊎ Begins bound_mark never next b
+  cases true = inl (tt, refl)
+  cases false = inr (λ more h f. let both : Some equal ≡ Some plus_equal = f ∙ e in cc)
+
+pub equal_case : (next : Option Kind) → (next ≡ Some plus_equal → ⊥) → IsCase (single equal) never bound_mark never next (λ u. false)
+equal_case next none = record { same = λ u. refl; ends = λ more h. h; cases = cases } where
+  cases : (b : Bool) → ((u : Unit {0}) × (false ≡ b)) ⊎ Begins bound_mark never next b
+  cases true = inr (λ more h e. none (sym e))
+  cases false = inl (tt, refl)
+
+pub bound_case : (next : Option Kind)
+    → IsCase (pair name_pieces (pair bound_mark range_pieces)) (either dot_dot never) bound_pieces (either dot_dot never) next (λ p. record { name = p.0; only_new = p.1.0; range = p.1.1 })
+bound_case next = record { same = λ p. refl; ends = λ more h. h; cases = λ b. inl ((b.name, (b.only_new, b.range)), refl) }
+
+module _ {T : Type 0} (pieces : T → List Piece) (longer : Kind → Type 0) where
+  pub list_case : (next : Option Kind) → IsCase (pair (separated comma pieces) (single dot)) never (list_to_dot pieces) never next (λ p. p.0)
+  list_case next = record { same = λ p. refl; ends = λ more h. h; cases = λ ps. inl ((ps, tt), refl) }
+
+  pub dot_behind : (longer dot → ⊥) → Apart (either comma longer) (single dot) never
+  dot_behind none b more h = λ e. elim e [ inl same ↦ cc | inr other ↦ none other ]
+
+pub declare_case : (next : Option Kind) → next ≡ Some declare_word → IsCase (pair (single declare_word) (list_to_dot name_pieces)) never statement_pieces never next (λ p. Declare p.1)
+declare_case next e = record { same = λ p. refl; ends = λ more h. h; cases = cases } where
+  cases : (s : Statement) → ((p : Unit {0} × NonEmpty Name) × (Declare p.1 ≡ s)) ⊎ Begins statement_pieces never next s
+  cases (Class a n s b) = inr (λ more h f. elim (begun (Class a n s b) more next f) [ inl x ↦ (let both = sym e ∙ x in cc) | inr x ↦ (let both = sym e ∙ x in cc) ])
+  cases (Predicate a n p c) = inr (λ more h f. elim (begun (Predicate a n p c) more next f) [ inl x ↦ (let both = sym e ∙ x in cc) | inr x ↦ (let both = sym e ∙ x in cc) ])
+  cases (Declare names) = inl ((tt, names), refl)
+  cases (Multi items) = inr (λ more h f. let both = f ∙ e in cc)
+  cases (Scope bounds) = inr (λ more h f. let both = f ∙ e in cc)
+  cases (Assert b a) = inr (λ more h f. (begun (Assert b a) more next f).no_declare e)
+
+pub multi_case : (next : Option Kind) → next ≡ Some multi_word → IsCase (pair (single multi_word) (list_to_dot item_pieces)) never statement_pieces never next (λ p. Multi p.1)
+multi_case next e = record { same = λ p. refl; ends = λ more h. h; cases = cases } where
+  cases : (s : Statement) → ((p : Unit {0} × NonEmpty Item) × (Multi p.1 ≡ s)) ⊎ Begins statement_pieces never next s
+  cases (Class a n s b) = inr (λ more h f. elim (begun (Class a n s b) more next f) [ inl x ↦ (let both = sym e ∙ x in cc) | inr x ↦ (let both = sym e ∙ x in cc) ])
+  cases (Predicate a n p c) = inr (λ more h f. elim (begun (Predicate a n p c) more next f) [ inl x ↦ (let both = sym e ∙ x in cc) | inr x ↦ (let both = sym e ∙ x in cc) ])
+  cases (Declare names) = inr (λ more h f. let both = f ∙ e in cc)
+  cases (Multi items) = inl ((tt, items), refl)
+  cases (Scope bounds) = inr (λ more h f. let both = f ∙ e in cc)
+  cases (Assert b a) = inr (λ more h f. (begun (Assert b a) more next f).no_multi e)
+
+pub scope_case : (next : Option Kind) → next ≡ Some scope_word → IsCase (pair (single scope_word) (list_to_dot bound_pieces)) never statement_pieces never next (λ p. Scope p.1)
+scope_case next e = record { same = λ p. refl; ends = λ more h. h; cases = cases } where
+  cases : (s : Statement) → ((p : Unit {0} × NonEmpty Bound) × (Scope p.1 ≡ s)) ⊎ Begins statement_pieces never next s
+  cases (Class a n s b) = inr (λ more h f. elim (begun (Class a n s b) more next f) [ inl x ↦ (let both = sym e ∙ x in cc) | inr x ↦ (let both = sym e ∙ x in cc) ])
+  cases (Predicate a n p c) = inr (λ more h f. elim (begun (Predicate a n p c) more next f) [ inl x ↦ (let both = sym e ∙ x in cc) | inr x ↦ (let both = sym e ∙ x in cc) ])
+  cases (Declare names) = inr (λ more h f. let both = f ∙ e in cc)
+  cases (Multi items) = inr (λ more h f. let both = f ∙ e in cc)
+  cases (Scope bounds) = inl ((tt, bounds), refl)
+  cases (Assert b a) = inr (λ more h f. (begun (Assert b a) more next f).no_scope e)
+
+-- lists of one part, where any will do
+pub a_list : {T : Type 0} → T → NonEmpty T
+a_list part = record { first = part; rest = [] }
+
+pub an_item : Item
+an_item = record { name = a_name; range = None }
+
+pub a_bound : Bound
+a_bound = record { name = a_name; only_new = false; range = a_range }

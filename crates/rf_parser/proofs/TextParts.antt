@@ -1,0 +1,178 @@
+-- What is read of a whole text.
+use Rattle.std.specs.Prelude.{◌==◌}
+use Rattle.std.proofs.lemmas.Bool.Decides.{nat_tests}
+use Rattle.std.proofs.Common.{◌≡◌, ◌⊎◌, ℕ, true, false, ◌+◌, ◌-◌, ◌<◌, ◌≤◌, List, [], ◌∷◌, ◌++◌, Option, None, Result, Err, inl, inr, length, take, drop, refl, sym, ap, ◌∙◌, subst, append_assoc, arith}
+use Rattle.std.proofs.lemmas.List.{length-append, length-map, take-append-drop}
+use Rattle.std.proofs.Math.Seq.{take-add, take-append-add, take-append_seam}
+use Rattle.rf_lexer.specs.declared.token.Kind.{Kind}
+use Rattle.rf_lexer.specs.declared.token.Token.{Token}
+use Rattle.rf_syntax.specs.declared.statement.Ast.{Ast}
+use Rattle.rf_syntax.specs.declared.statement.Statement.{Statement}
+use Rattle.rf_syntax.specs.Piece.{kinds_of}
+use Rattle.rf_syntax.specs.Statement.{pieces_of, spelling_of, statement_pieces}
+use Rattle.rf_syntax.proofs.Beginnings.{statement_begins}
+use Rattle.rf_parser.specs.declared.error.ParseError.{ParseError}
+use Rattle.rf_parser.specs.declared.error.ParseError.TheVariants.{Unexpected}
+use Rattle.rf_parser.specs.Fit.{Fits, IsTreeOf, token_kinds}
+use Rattle.rf_parser.specs.Parts.{statements_pieces}
+use Rattle.rf_parser.specs.Reading.{Halts, IsRead, IsStuck, Shares, anything, first_kind, never}
+use Rattle.rf_parser.specs.Refusal.{BeginsText, IsFirstRefused, IsText}
+use Rattle.rf_parser.proofs.Fronts.{append_nil, fits_kinds, kinds_then, tokens_joined}
+use Rattle.rf_parser.proofs.Wholes.{Begins, IsCase, pair, read_as, read_next, read_nothing, stuck_as, stuck_next, stuck_start}
+
+-- statements up to the end
+more_statements : (next : Option Kind) → (next ≡ None → ⊥) → IsCase (pair statement_pieces statements_pieces) anything statements_pieces anything next (λ p. p.0 ∷ p.1)
+more_statements next some = record { same = λ p. refl; ends = λ more h. h; cases = cases } where
+  nothing : (more : List Kind) → Halts anything more → first_kind more ≡ next → ⊥
+  nothing [] h e = some (sym e)
+  nothing (k ∷ ks) h e = h tt
+
+  cases : (ss : List Statement) → ((p : Statement × List Statement) × (p.0 ∷ p.1 ≡ ss)) ⊎ Begins statements_pieces anything next ss
+  cases [] = inr nothing
+  cases (s ∷ ss) = inl ((s, ss), refl)
+
+-- whether there are tokens
+pub some_rest : (ts : List Token) → false ≡ (length ts == 0) → first_kind (token_kinds ts) ≡ None → ⊥
+some_rest [] e f = cc
+some_rest (t ∷ ts) e f = cc
+
+pub empty_rest : (ts : List Token) → true ≡ (length ts == 0) → ts ≡ []
+empty_rest [] e = refl
+empty_rest (t ∷ ts) e = absurd (grind (arith, nat_tests, e))
+
+pub statement_more : {ts next : List Token} {s : Statement} → (first_kind (token_kinds ts) ≡ None → ⊥) → IsRead statement_pieces never ts s next
+    → (ss : List Statement) (after : List Token) → IsRead statements_pieces anything next ss after → IsRead statements_pieces anything ts (s ∷ ss) after
+statement_more some h ss after k = read_as (more_statements _ some) (read_next h k)
+
+pub statement_more_stuck : {ts next : List Token} {s : Statement} → (first_kind (token_kinds ts) ≡ None → ⊥) → IsRead statement_pieces never ts s next
+    → (left : ℕ) → IsStuck statements_pieces anything next left → IsStuck statements_pieces anything ts left
+statement_more_stuck some h left k = stuck_as (more_statements _ some) (stuck_next h k)
+
+pub statement_stuck : {ts : List Token} {left : ℕ} → (first_kind (token_kinds ts) ≡ None → ⊥) → IsStuck statement_pieces never ts left → IsStuck statements_pieces anything ts left
+statement_stuck some h = stuck_as (more_statements _ some) (stuck_start statements_pieces [] h)
+
+pub statements_end : {ts : List Token} → ts ≡ [] → IsRead statements_pieces anything ts [] []
+statements_end e = subst (λ us. IsRead statements_pieces anything us [] []) (sym e) (read_nothing [] refl cases) where
+  cases : (ss : List Statement) → (ss ≡ []) ⊎ Begins statements_pieces anything None ss
+  cases [] = inl refl
+  cases (s ∷ ss) = inr (λ more h f.
+      let begun = statement_begins s in
+      let whole = kinds_then (statement_pieces s) (statements_pieces ss) more ∙ ap (λ (ks : List Kind). ks ++ (kinds_of (statements_pieces ss) ++ more)) begun.1 in
+      let both = sym (ap first_kind whole) ∙ f in cc)
+
+-- a tree is read
+whole_front : {ts front : List Token} → ts ≡ front ++ [] → ts ≡ front
+whole_front {front = front} e = e ∙ append_nil front
+
+pub tree_read : {ts : List Token} {ss : List Statement} → IsRead statements_pieces anything ts ss [] → IsTreeOf ts (record { statements = ss })
+tree_read {ss = ss} h = subst (λ us. Fits us (statements_pieces ss)) (sym (whole_front h.joined)) h.fits
+
+whole_shares : (ts front : List Token) (kinds : List Kind) → ts ≡ front → kinds ≡ token_kinds ts → Shares (token_kinds front) [] (kinds ++ [])
+whole_shares ts front kinds e f = record { tail = []; joined = ap (λ (ks : List Kind). ks ++ []) (f ∙ ap (λ (us : List Token). token_kinds us) e); same = refl }
+
+pub tree_only : {ts : List Token} {ss : List Statement} (ast : Ast) → IsRead statements_pieces anything ts ss [] → IsTreeOf ts ast → record { statements = ss } ≡ ast
+tree_only {ts} {ss} ast h fits =
+    let e = whole_front h.joined in
+    let same = h.only ast.statements [] tt (whole_shares ts h.front (spelling_of ast) e (fits_kinds ts (pieces_of ast) fits)) in
+    ap (λ (xs : List Statement). record { statements = xs }) (sym (same.same (subst (λ us. Fits us (pieces_of ast)) e fits)))
+
+-- no tree is read
+module _ {ts : List Token} {left : ℕ} (h : IsStuck statements_pieces anything ts left) where
+  kinds_joined_here : token_kinds ts ≡ token_kinds h.front ++ token_kinds h.rest
+  kinds_joined_here = ap (λ (us : List Token). token_kinds us) h.joined ∙ tokens_joined h.front h.rest
+
+  front_length : length (token_kinds h.front) ≡ length h.front
+  front_length = length-map h.front (λ (t : Token). t.kind)
+
+  pub left_within : left ≤ length ts
+  left_within = omega (arith, h.last, ap length h.joined, length-append h.front h.rest)
+
+  place : length ts - left ≡ length h.front
+  place = omega (arith, h.last, ap length h.joined, length-append h.front h.rest)
+
+  begun_here : BeginsText (take (length h.front) (token_kinds ts))
+  begun_here = record {
+    ast = record { statements = h.part };
+    more = h.tail;
+    joined = ap (λ (ks : List Kind). ks ++ h.tail) (ap (λ (n : ℕ). take n (token_kinds ts)) (sym front_length) ∙ ap (λ (ks : List Kind). take (length (token_kinds h.front)) ks) kinds_joined_here
+        ∙ take-append_seam (token_kinds h.front) (token_kinds h.rest)) ∙ sym h.begun;
+  }
+
+  shares_next : (rest : List Kind) (kinds : List Kind) (more : List Kind) → rest ≡ token_kinds h.rest → take 1 rest ++ more ≡ kinds → (rest ≡ [] → ⊥)
+      → Shares (token_kinds h.front) (token_kinds h.rest) (token_kinds h.front ++ kinds)
+  shares_next [] kinds more e f some = absurd (some refl)
+  shares_next (k ∷ ks) kinds more e f some = record { tail = kinds; joined = refl; same = ap first_kind (sym f) ∙ ap first_kind e }
+
+  refused_next : length h.front < length ts → BeginsText (take (length h.front + 1) (token_kinds ts)) → ⊥
+  refused_next lt b =
+      let fronts : take (length h.front + 1) (token_kinds ts) ≡ token_kinds h.front ++ take 1 (token_kinds h.rest) =
+      ap (λ (n : ℕ). take (n + 1) (token_kinds ts)) (sym front_length) ∙ ap (λ (ks : List Kind). take (length (token_kinds h.front) + 1) ks) kinds_joined_here
+      ∙ take-append-add (token_kinds h.front) (token_kinds h.rest) 1 in
+      let whole : spelling_of b.ast ≡ token_kinds h.front ++ (take 1 (token_kinds h.rest) ++ b.more) =
+      sym b.joined ∙ ap (λ (ks : List Kind). ks ++ b.more) fronts ∙ append_assoc (token_kinds h.front) (take 1 (token_kinds h.rest)) b.more in
+      let shared = shares_next (token_kinds h.rest) (take 1 (token_kinds h.rest) ++ b.more) b.more refl refl (some_rest h.rest (omega (arith, ap length h.joined, length-append h.front h.rest))) in
+      h.dead b.ast.statements [] tt (subst (λ ks. Shares (token_kinds h.front) (token_kinds h.rest) ks) (sym whole ∙ sym (append_nil (spelling_of b.ast))) shared)
+    where
+      some_rest : (rest : List Token) → 0 < length rest → token_kinds rest ≡ [] → ⊥
+      some_rest [] lt e = omega (arith, lt)
+      some_rest (t ∷ rest) lt e = cc
+
+  no_rest : (rest : List Token) → length rest ≡ 0 → rest ≡ []
+  no_rest [] e = refl
+  no_rest (t ∷ rest) e = absurd (omega (arith, e))
+
+  refused_last : length h.front ≡ length ts → IsText (token_kinds ts) → ⊥
+  refused_last e t =
+      let none : h.rest ≡ [] = no_rest h.rest (omega (arith, ap length h.joined, length-append h.front h.rest)) in
+      let whole : ts ≡ h.front = h.joined ∙ ap (λ (us : List Token). h.front ++ us) none ∙ append_nil h.front in
+      h.dead t.ast.statements [] tt
+      (subst (λ us. Shares (token_kinds h.front) (token_kinds us) (spelling_of t.ast ++ [])) (sym none) (whole_shares ts h.front (spelling_of t.ast) whole (sym t.spelled)))
+
+  first_refused : IsFirstRefused ts (length h.front)
+  first_refused = record {
+    within = omega (arith, ap length h.joined, length-append h.front h.rest);
+    begun = begun_here;
+    next = refused_next;
+    last = refused_last;
+  }
+
+  pub stuck_refused : IsFirstRefused ts (length ts - left)
+  stuck_refused = subst (λ k. IsFirstRefused ts k) (sym place) first_refused
+
+below_or_at : (k n : ℕ) → k ≤ n → (k < n) ⊎ (k ≡ n)
+below_or_at k n h = grind (arith, h)
+
+-- tokens with a tree are nowhere refused
+pub tree_not_refused : {ts : List Token} (ast : Ast) (k : ℕ) → IsTreeOf ts ast → IsFirstRefused ts k → ⊥
+tree_not_refused {ts} ast k fits r =
+    let kinds = fits_kinds ts (pieces_of ast) fits in
+    elim (below_or_at k (length ts) r.within) [
+      | inl lt ↦ r.next lt (record { ast = ast; more = drop (k + 1) (token_kinds ts); joined = take-append-drop (k + 1) (token_kinds ts) ∙ sym kinds })
+      | inr e ↦ r.last e (record { ast = ast; spelled = sym kinds })
+    ]
+
+-- a text that begins with more kinds begins with fewer
+begins_fewer : (j k : ℕ) (kinds : List Kind) → j ≤ k → BeginsText (take k kinds) → BeginsText (take j kinds)
+begins_fewer j k kinds le b = record {
+  ast = b.ast;
+  more = take (k - j) (drop j kinds) ++ b.more;
+  joined = sym (append_assoc (take j kinds) (take (k - j) (drop j kinds)) b.more)
+      ∙ ap (λ (ks : List Kind). ks ++ b.more) (sym (take-add j (k - j) kinds) ∙ ap (λ (n : ℕ). take n kinds) (omega (arith, le))) ∙ b.joined;
+}
+
+not_after : {ts : List Token} (j k : ℕ) → IsFirstRefused ts j → IsFirstRefused ts k → j < k → ⊥
+not_after {ts} j k r s lt = r.next (omega (arith, lt, s.within)) (begins_fewer (j + 1) k (token_kinds ts) (omega (arith, lt)) s.begun)
+
+three : (j k : ℕ) → (j < k) ⊎ ((j ≡ k) ⊎ (k < j))
+three j k = grind arith
+
+pub refused_once : {ts : List Token} (j k : ℕ) → IsFirstRefused ts j → IsFirstRefused ts k → j ≡ k
+refused_once j k r s =
+    elim (three j k) [ inl lt ↦ absurd (not_after j k r s lt) | inr other ↦ elim other [ inl e ↦ e | inr gt ↦ absurd (not_after k j s r gt) ] ]
+
+-- the place that an error names
+pub refused_as : {ts : List Token} {n : ℕ} (k : ℕ) → Unexpected n ≡ Unexpected k → IsFirstRefused ts n → IsFirstRefused ts k
+refused_as {ts} {n} k e r = let same : n ≡ k = cc in subst (λ j. IsFirstRefused ts j) same r
+
+pub refused_here : {n : ℕ} (k : ℕ) → n ≡ k → ◌≡◌ {A = Result Ast ParseError} (Err (Unexpected n)) (Err (Unexpected k))
+refused_here k e = ap (λ (j : ℕ). Err (Unexpected j)) e

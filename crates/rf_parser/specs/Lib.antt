@@ -1,0 +1,4 @@
+pub mod Fit
+pub mod Parts
+pub mod Reading
+pub mod Refusal
