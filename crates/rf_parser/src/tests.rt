@@ -72,6 +72,13 @@ fn trees_are_spelled_as_their_texts(rt: HostRuntime) -> Result<(), Fail> {
     for text in [
         "",
         "class A. scope node = 1.",
+        "class A. scope node = 3.",
+        "abstract class A. scope A = 1.",
+        "class A. A(a). !A(a).",
+        "class A { B[2] r } class B. A(a). B(b). B(c). scope node = 3.",
+        "class A { A[] r } default !r(*, *). A(a). multi m. r(a, m): error.",
+        "class A { A[] next } default !next(*, *). next(a, b). next(b, c). ?next(c, a). \
+         error e(x) <-> next+(x, x).",
         "class A { A[] r } default !r(*, *). ?r(a, b). pred p(x, y) <-> r(x, y).",
         "class A { contains A[] xs } scope node = 2.",
         "class A { B[] bs opposite home } class B { A[] home opposite bs } A(a). B(b). bs(a, b). \
