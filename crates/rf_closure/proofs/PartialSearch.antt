@@ -1,6 +1,6 @@
 -- What the marks and the stack say while the search goes on, and at its end.
-use Rattle.std.proofs.Common.{◌≡◌, ℕ, ◌<◌, ◌⊎◌, ◌&&◌, Bool, true, false, ltb, eqb, not, List, [], ◌∷◌, ◌++◌, length, get_or, sym, ◌∙◌, subst, inl, inr, arith}
-use Rattle.std.proofs.lemmas.Bool.{and_parts, and_cases, or_cases, or_left, or_right, cases_Bool, both_ways, lt-ltb, not-false, eqb-true}
+use Rattle.std.proofs.Common.{◌≡◌, ℕ, ◌<◌, ◌⊎◌, ◌&&◌, Bool, true, false, eqb, not, List, [], ◌∷◌, ◌++◌, length, get_or, sym, ◌∙◌, subst, inl, inr, arith}
+use Rattle.std.proofs.lemmas.Bool.{and_parts, and_cases, or_cases, or_left, or_right, cases_Bool, both_ways, not-false, eqb-true}
 use Rattle.std.proofs.lemmas.List.Elements.{Contains-append_left, Contains-push, Contains-push_cases}
 use Rattle.std.specs.Prelude.{Contains, ◌↔◌}
 use Rattle.rf_finite.specs.Walks.{walk_below, IsWalk, IsReachable}
@@ -18,24 +18,24 @@ pub record IsPartialSearch (size : ℕ) (edge : ℕ → ℕ → Bool) (through :
 
 module _ (size : ℕ) (edge : ℕ → ℕ → Bool) (through : ℕ → Bool) (from : ℕ) where
   -- what is marked after a row was marked before, or is in the row
-  row_cases : (c : ℕ) (was : List Bool) (old : List ℕ) (marks : List Bool) (stack : List ℕ) → Marking size (edge c) was old marks stack size
+  row_cases : (c : ℕ) (was : List Bool) (old : List ℕ) (marks : List Bool) (stack : List ℕ) → Marking size (edge c) was old marks stack
       → (k : ℕ) → k < size → get_or marks k false ≡ true → (get_or was k false ≡ true) ⊎ (edge c k ≡ true)
-  row_cases c was old marks stack m k l h = elim (or_cases (get_or was k false) (ltb k size && edge c k) (sym (m.marked k l) ∙ h)) [
+  row_cases c was old marks stack m k l h = elim (or_cases (get_or was k false) (edge c k) (sym (m.marked k l) ∙ h)) [
     | inl e ↦ inl e
-    | inr e ↦ inr (and_parts (ltb k size) (edge c k) e).1
+    | inr e ↦ inr e
   ]
 
-  row_kept : (c : ℕ) (was : List Bool) (old : List ℕ) (marks : List Bool) (stack : List ℕ) → Marking size (edge c) was old marks stack size
+  row_kept : (c : ℕ) (was : List Bool) (old : List ℕ) (marks : List Bool) (stack : List ℕ) → Marking size (edge c) was old marks stack
       → (k : ℕ) → k < size → get_or was k false ≡ true → get_or marks k false ≡ true
-  row_kept c was old marks stack m k l h = m.marked k l ∙ or_left (get_or was k false) (ltb k size && edge c k) h
+  row_kept c was old marks stack m k l h = m.marked k l ∙ or_left (get_or was k false) (edge c k) h
 
-  row_marked : (c : ℕ) (was : List Bool) (old : List ℕ) (marks : List Bool) (stack : List ℕ) → Marking size (edge c) was old marks stack size
+  row_marked : (c : ℕ) (was : List Bool) (old : List ℕ) (marks : List Bool) (stack : List ℕ) → Marking size (edge c) was old marks stack
       → (k : ℕ) → k < size → edge c k ≡ true → get_or marks k false ≡ true
-  row_marked c was old marks stack m k l h = m.marked k l ∙ or_right (get_or was k false) (ltb k size && edge c k) (rw (lt-ltb k size l) h)
+  row_marked c was old marks stack m k l h = m.marked k l ∙ or_right (get_or was k false) (edge c k) h
 
   -- the start is expanded
   pub IsPartialSearch-start : (was marks : List Bool) (stack : List ℕ) → ((k : ℕ) → k < size → get_or was k false ≡ false)
-      → Marking size (edge from) was [] marks stack size → IsPartialSearch size edge through from marks stack
+      → Marking size (edge from) was [] marks stack → IsPartialSearch size edge through from marks stack
   IsPartialSearch-start was marks stack none m = record {
     len = m.len;
     sound = λ k l h. elim (row_cases from was [] marks stack m k l h) [
@@ -73,7 +73,7 @@ module _ (size : ℕ) (edge : ℕ → ℕ → Bool) (through : ℕ → Bool) (fr
 
   -- the place on top of the stack is expanded
   pub IsPartialSearch-expand : (was : List Bool) (old : List ℕ) (c : ℕ) (marks : List Bool) (stack : List ℕ)
-      → IsPartialSearch size edge through from was (old ++ c ∷ []) → (not (eqb c from) && through c) ≡ true → Marking size (edge c) was old marks stack size
+      → IsPartialSearch size edge through from was (old ++ c ∷ []) → (not (eqb c from) && through c) ≡ true → Marking size (edge c) was old marks stack
       → IsPartialSearch size edge through from marks stack
   IsPartialSearch-expand was old c marks stack r go m =
       let passed = (and_parts (not (eqb c from)) (through c) go).1 in

@@ -1,16 +1,16 @@
--- What marking the ends of the edges from one place does to the marks and to the stack.
-use Rattle.std.specs.Prelude.{◌≡◌, ℕ, ◌+◌, if◌then◌else◌, [], ◌∷◌, ◌<◌, ◌⊎◌, ◌||◌, ◌&&◌, Bool, true, false, nat_lt, List, length, slice_index_or, Contains}
+-- What marking the places to which one place leads does to the marks and to the stack.
+use Rattle.std.specs.Prelude.{◌≡◌, ℕ, ◌+◌, if◌then◌else◌, [], ◌∷◌, ◌<◌, ◌⊎◌, ◌||◌, Bool, true, false, List, length, slice_index_or, Contains}
 
 -- how many places are not marked
 abbrev pub unmarked_count : List Bool → ℕ
 unmarked_count [] = 0
 unmarked_count (b ∷ bs) = (if b then 0 else 1) + unmarked_count bs
 
--- the places of the row below i are marked as well, and those that were not are on the stack
+-- the places of the row are marked as well, and those that were not are on the stack
 pub record Marking (size : ℕ) (row : ℕ → Bool) (old_marks : List Bool) (old_stack : List ℕ)
-    (marks : List Bool) (stack : List ℕ) (i : ℕ) : Type 0 where
+    (marks : List Bool) (stack : List ℕ) : Type 0 where
   pub len : length marks ≡ size
-  pub marked : (k : ℕ) → k < size → slice_index_or marks k false ≡ (slice_index_or old_marks k false || (nat_lt k i && row k))
+  pub marked : (k : ℕ) → k < size → slice_index_or marks k false ≡ (slice_index_or old_marks k false || row k)
   pub kept : (k : ℕ) → Contains old_stack k → Contains stack k
   pub added : (k : ℕ) → k < size → slice_index_or old_marks k false ≡ false
       → slice_index_or marks k false ≡ true → Contains stack k

@@ -2,9 +2,11 @@
 //! be passed through.
 #![tactic(auto)]
 
+mod along;
 mod laws;
 mod search;
 
+pub use along::reach_along;
 pub use laws::{join_law, monotone_law, no_repeats_law, reverse_law, split_law};
 pub use search::{Edges, reach};
 

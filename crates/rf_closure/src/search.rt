@@ -51,7 +51,7 @@ fn expand<E: Edges>(
     requires marks { vec_len marks.old ≡ E.size e.now }
     ensures len { vec_len marks.new ≡ vec_len marks.old }
     ensures marks { OnOk result (Marking (E.size e.now) (E.edge e.now c) marks.old.items stack.old.items
-        marks.new.items stack.new.items (E.size e.now)) }
+        marks.new.items stack.new.items) }
 {
     for b in 0..e.size() {
         if is_new_end(e, c, b, marks) {
@@ -73,7 +73,7 @@ fn is_passed<E: Edges>(e: &E, from: u64, c: u64) -> bool
 
 /// Marks for `size` places, none of them set. Where `size` is more than memory holds, the answer is
 /// an `AllocError`.
-fn no_marks(alloc: Global, size: u64) -> Result<Vec<bool>, AllocError>
+pub(crate) fn no_marks(alloc: Global, size: u64) -> Result<Vec<bool>, AllocError>
     ensures { IfOk result (λ marks. marks.items ≡ replicate size false) }
 {
     vec![in alloc; false; size as usize]

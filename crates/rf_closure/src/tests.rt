@@ -1,10 +1,14 @@
-//! Small graphs with known answers, a ring, and how often the search asks for an edge.
+//! Small graphs with known answers, a ring, how often the search asks for an edge, and lists of
+//! successors.
 
 ghost use Rattle.std.specs.Prelude.{◌≡◌, ◌==◌, ◌+◌, ◌-◌, ◌%◌, ◌^◌, ◌&&◌, ◌<◌, not, nat_lt, true, false};
 ghost use Rattle.std.specs.List.{list_any};
 
+use crate::along::reach_along;
 use crate::search::{Edges, reach};
+use std::alloc::{AllocError, Global};
 use std::cell::Cell;
+use std::process::Abort;
 use std::test::Fail;
 
 /// A graph by its list of edges and the list of places that no walk may pass through.
@@ -119,10 +123,55 @@ impl Edges for Endless {
     }
 }
 
+/// A name, the number of places, the edges, the places that no walk may pass through, the start,
+/// and the marks that are wanted.
+type Case<'a> = (&'a str, u64, &'a [(u64, u64)], &'a [u64], u64, &'a [bool]);
+
+/// Stops at the first case whose marks are not the wanted ones.
+fn expect_marks(rt: &impl Abort, alloc: Global, cases: &[Case<'_>]) -> Result<(), Fail> {
+    for &(name, size, edges, closed, from, want) in cases {
+        let graph = Listed {
+            size,
+            edges,
+            closed,
+        };
+        assert!(rt; from < size);
+        let marks = reach(alloc, &graph, from)?;
+        assert_eq!(rt; marks.as_slice(), want, "{name}");
+    }
+    Ok(())
+}
+
 #[test]
 fn marks_what_walks_lead_to(rt: HostRuntime) -> Result<(), Fail> {
-    let cases: [(&str, u64, &[(u64, u64)], &[u64], u64, &[bool]); 11] = [
+    let cases: [Case<'_>; 6] = [
         ("a path", 3, &[(0, 1), (1, 2)], &[], 0, &[false, true, true]),
+        ("one place and no edge", 1, &[], &[], 0, &[false]),
+        ("an edge to itself", 1, &[(0, 0)], &[], 0, &[true]),
+        (
+            "back to the start",
+            2,
+            &[(0, 1), (1, 0)],
+            &[],
+            0,
+            &[true, true],
+        ),
+        ("no edge backwards", 2, &[(1, 0)], &[], 0, &[false, false]),
+        (
+            "from the last place",
+            4,
+            &[(3, 1), (1, 3), (1, 2), (0, 1)],
+            &[],
+            3,
+            &[false, true, true, true],
+        ),
+    ];
+    expect_marks(&rt, rt.alloc(), &cases)
+}
+
+#[test]
+fn passes_through_no_closed_place(rt: HostRuntime) -> Result<(), Fail> {
+    let cases: [Case<'_>; 5] = [
         (
             "a path through a closed place",
             3,
@@ -131,8 +180,6 @@ fn marks_what_walks_lead_to(rt: HostRuntime) -> Result<(), Fail> {
             0,
             &[false, true, false],
         ),
-        ("one place and no edge", 1, &[], &[], 0, &[false]),
-        ("an edge to itself", 1, &[(0, 0)], &[], 0, &[true]),
         (
             "an edge to itself at a closed place",
             1,
@@ -140,14 +187,6 @@ fn marks_what_walks_lead_to(rt: HostRuntime) -> Result<(), Fail> {
             &[0],
             0,
             &[true],
-        ),
-        (
-            "back to the start",
-            2,
-            &[(0, 1), (1, 0)],
-            &[],
-            0,
-            &[true, true],
         ),
         (
             "not back through a closed place",
@@ -173,27 +212,8 @@ fn marks_what_walks_lead_to(rt: HostRuntime) -> Result<(), Fail> {
             1,
             &[true, false, false],
         ),
-        ("no edge backwards", 2, &[(1, 0)], &[], 0, &[false, false]),
-        (
-            "from the last place",
-            4,
-            &[(3, 1), (1, 3), (1, 2), (0, 1)],
-            &[],
-            3,
-            &[false, true, true, true],
-        ),
     ];
-    for (name, size, edges, closed, from, want) in cases {
-        let graph = Listed {
-            size,
-            edges,
-            closed,
-        };
-        assert!(rt; from < size);
-        let marks = reach(rt.alloc(), &graph, from)?;
-        assert_eq!(rt; marks.as_slice(), want, "{name}");
-    }
-    Ok(())
+    expect_marks(&rt, rt.alloc(), &cases)
 }
 
 #[test]
@@ -225,4 +245,34 @@ fn expands_each_place_once(rt: HostRuntime) -> Result<(), Fail> {
 #[test]
 fn fails_where_the_marks_have_no_room(rt: HostRuntime) {
     assert!(rt; reach(rt.alloc(), &Endless, 0).is_err());
+}
+
+/// A chain from 0 to 2, a cycle of 3 and 4, a place that leads to itself, and one whose list has a
+/// place twice and numbers of no place.
+fn lists(alloc: Global) -> Result<Vec<Vec<u64>>, AllocError> {
+    let rows: [&[u64]; 7] = [&[1], &[2], &[], &[4], &[3], &[5], &[0, 7, u64::MAX, 0]];
+    let mut lists = Vec::new(alloc);
+    for row in rows {
+        lists.push(row.iter().copied().collect(alloc)?)?;
+    }
+    Ok(lists)
+}
+
+#[test]
+fn marks_what_lists_lead_to(rt: HostRuntime) -> Result<(), Fail> {
+    let wanted: [(u64, [bool; 7]); 6] = [
+        (0, [false, true, true, false, false, false, false]),
+        (2, [false, false, false, false, false, false, false]),
+        (3, [false, false, false, true, true, false, false]),
+        (4, [false, false, false, true, true, false, false]),
+        (5, [false, false, false, false, false, true, false]),
+        (6, [true, true, true, false, false, false, false]),
+    ];
+    let lists = lists(rt.alloc())?;
+    for (from, want) in wanted {
+        assert!(rt; from < lists.len() as u64);
+        let marks = reach_along(rt.alloc(), &lists, from)?;
+        assert_eq!(rt; marks.as_slice(), want.as_slice(), "from {from}");
+    }
+    Ok(())
 }

@@ -1,0 +1,88 @@
+//! The search from one place along lists of the places to which each place leads.
+
+ghost use Rattle.std.specs.Prelude.{◌≡◌, ◌==◌, ℕ, ◌<◌, ◌&&◌, not, nat_lt, true, false, IfOk, OnOk, vec_len, length, map, slice_index_or};
+ghost use Rattle.std.specs.List.{list_any};
+ghost use Rattle.rf_finite.specs.Walks.{walk_below};
+ghost use Rattle.rf_closure.specs.Along.{leads};
+ghost use Rattle.rf_closure.specs.Marking.{Marking};
+
+use crate::search::no_marks;
+use std::alloc::{AllocError, Global};
+
+/// Whether number `b` is a place that is not marked yet.
+fn is_unmarked(marks: &[bool], b: u64) -> bool
+    ensures { result ≡ (nat_lt b (length marks.now) && not (slice_index_or marks.now b false)) }
+{
+    (b as usize) < marks.len() && !marks[b as usize]
+}
+
+/// Marks each place of the list, and puts those that were not marked on the stack. A number that is
+/// no place is passed over.
+fn mark_listed(
+    places: &[u64],
+    marks: &mut Vec<bool>,
+    stack: &mut Vec<u64>,
+) -> Result<(), AllocError>
+    ensures len { vec_len marks.new ≡ vec_len marks.old }
+    ensures marks { OnOk result (Marking (vec_len marks.old)
+        (λ b. list_any (λ c. c == b) places.now)
+        marks.old.items stack.old.items marks.new.items stack.new.items) }
+{
+    for b in places {
+        if is_unmarked(marks, *b) {
+            marks[*b as usize] = true;
+            stack.push(*b)?;
+        }
+    }
+    Ok(())
+}
+
+/// Marks each place to which place `c` leads directly, and puts those that were not marked on the
+/// stack.
+fn expand_along(
+    successors: &[Vec<u64>],
+    c: u64,
+    marks: &mut Vec<bool>,
+    stack: &mut Vec<u64>,
+) -> Result<(), AllocError>
+    requires from { c < length successors.now }
+    requires marks { vec_len marks.old ≡ length successors.now }
+    ensures len { vec_len marks.new ≡ vec_len marks.old }
+    ensures marks { OnOk result (Marking (length successors.now)
+        (leads (map (λ list. list.items) successors.now) c)
+        marks.old.items stack.old.items marks.new.items stack.new.items) }
+{
+    mark_listed(&successors[c as usize], marks, stack)
+}
+
+/// Marks each place to which a walk of one or more steps leads from `from`, where each place leads
+/// to the places of its list. So `from` itself is marked only where a walk leads back to it. A
+/// number that is no place counts for nothing.
+///
+/// The list of each place is read at most once, so the time grows with the number of places and the
+/// lengths of their lists together. The memory is a mark for each place and a stack that holds each
+/// place at most once; where there is no room for them, the answer is an `AllocError`.
+pub fn reach_along(
+    alloc: Global,
+    successors: &[Vec<u64>],
+    from: u64,
+) -> Result<Vec<bool>, AllocError>
+    requires { from < length successors.now }
+    ensures len { IfOk result (λ marks. vec_len marks ≡ length successors.now) }
+
+    // A place is marked exactly where a walk leads to it.
+    ensures value { IfOk result (λ marks. (b : ℕ) → b < length successors.now
+        → slice_index_or marks.items b false
+        ≡ walk_below (leads (map (λ list. list.items) successors.now)) (λ _. true)
+        (length successors.now) from b) }
+{
+    let mut marks = no_marks(alloc, successors.len() as u64)?;
+    let mut stack = Vec::new(alloc);
+    expand_along(successors, from, &mut marks, &mut stack)?;
+    while let Some(c) = stack.pop() {
+        if c != from {
+            expand_along(successors, c, &mut marks, &mut stack)?;
+        }
+    }
+    Ok(marks)
+}
