@@ -1,0 +1,4 @@
+pub mod Arguments
+pub mod Meaning
+pub mod Reader
+pub mod Laws
