@@ -15,7 +15,8 @@ use Rattle.rf_problem.specs.Above.{AreAbove, AreSelves, row}
 use Rattle.rf_problem.specs.Classes.{IsBelow, class_at, extends, is_below}
 use Rattle.rf_problem.specs.Raised.{AreSound, AreWithin, HaveThrough}
 use Rattle.rf_problem.specs.declared.class.Class.{Class}
-use Rattle.rf_problem.proofs.BelowLemmas.{IsBelow-from_extends, IsBelow-from_is_below, IsBelow-trans, any_extended, anywhere, extends-in_range, extends_some, is_below-from_IsBelow, none_new, same_tests}
+use Rattle.rf_problem.proofs.Below.{IsBelow-from_is_below, is_below-from_IsBelow}
+use Rattle.rf_problem.proofs.BelowLemmas.{IsBelow-from_extends, IsBelow-trans, any_extended, anywhere, extends-in_range, extends_some, none_new, same_tests}
 
 -- a row past the end has no class
 row-past : (rows : List (FinSet nat_cmp)) (c d : ℕ) → length rows ≤ c → contains (row rows c) d ≡ false

@@ -8,13 +8,14 @@ use Rattle.std.proofs.lemmas.Bool.{and_from, and_parts, cases_Bool, cases_eq, ca
 use Rattle.std.proofs.Math.Seq.{take-length}
 use Rattle.std.proofs.lemmas.List.{get_or_past}
 use Rattle.std.proofs.lemmas.List.Folds.{list_any_more}
-use Rattle.rf_finite.specs.Walks.{IsReachable, IsWalk, walk_below}
-use Rattle.rf_finite.proofs.Walks.{IsReachable-from_edge, IsReachable-from_walk_below, IsReachable-trans, IsWalk-length, IsWalk-without_repeats, walk_below-from_IsWalk}
+use Rattle.rf_finite.specs.Walks.{IsReachable, IsWalk}
+use Rattle.rf_finite.proofs.Walks.{IsReachable-from_edge, IsReachable-trans, IsWalk-length, IsWalk-without_repeats}
 use Rattle.rf_problem.specs.Below.{IsBelowSome, is_content}
 use Rattle.rf_problem.specs.Classes.{IsBelow, class_at, extends, is_below, no_class}
 use Rattle.rf_problem.specs.Parts.{is_contains}
 use Rattle.rf_problem.specs.declared.class.Class.{Class}
 use Rattle.rf_problem.specs.declared.reference.Reference.{Reference}
+use Rattle.rf_problem.proofs.Below.{IsBelow-from_is_below, is_below-from_IsBelow}
 
 abbrev pub anywhere : ℕ → Bool
 anywhere x = true
@@ -48,18 +49,6 @@ module _ (classes : List Class) where
     | inl l ↦ l
     | inr past ↦ (let none : extends classes c d ≡ false = ap (λ k. list_any (λ s. s == d) k.supers) (get_or_past classes c no_class past) in
         absurd (true≢false (sym e ∙ none)))
-  ]
-
-  -- the test tells which classes are below which
-  pub is_below-from_IsBelow : (c d : ℕ) → IsBelow classes c d → is_below classes c d ≡ true
-  is_below-from_IsBelow c d (inl e) = or_left (c == d) (walk_below (extends classes) anywhere (length classes) c d) (eq-eqb c d e)
-  is_below-from_IsBelow c d (inr w) = or_right (c == d) (walk_below (extends classes) anywhere (length classes) c d)
-      (walk_below-from_IsWalk (extends classes) anywhere (length classes) c w.0 d w.1)
-
-  pub IsBelow-from_is_below : (c d : ℕ) → is_below classes c d ≡ true → IsBelow classes c d
-  IsBelow-from_is_below c d h = elim (or_cases (c == d) (walk_below (extends classes) anywhere (length classes) c d) h) [
-    | inl e ↦ inl (eqb-true c d e)
-    | inr w ↦ inr (IsReachable-from_walk_below (extends classes) anywhere (length classes) c d w)
   ]
 
   -- what a walk leads on from is a class
@@ -178,8 +167,8 @@ module _ (classes : List Class) where
         | inl e ↦ eqb-true up.0 d e
         | inr e ↦ absurd (true≢false (sym e ∙ empty up.0))
       ] in
-      is_below-from_IsBelow c d (subst (IsBelow classes c) only up.2))
-      (λ h. (is c).1 (d, single d ∙ or_left (d == d) (contains none d) (eq-eqb d d refl), IsBelow-from_is_below c d h))
+      is_below-from_IsBelow classes c d (subst (IsBelow classes c) only up.2))
+      (λ h. (is c).1 (d, single d ∙ or_left (d == d) (contains none d) (eq-eqb d d refl), IsBelow-from_is_below classes c d h))
 
   -- what is below some target of a reference that contains
   content-above :
@@ -218,8 +207,8 @@ module _ (classes : List Class) where
       contains below c ≡ list_any (λ r. is_contains r.kind && is_below classes c r.target) rs
   is_below-contents rs tops below contents is c =
       same_tests (contains below c) (list_any (λ r. is_contains r.kind && is_below classes c r.target) rs)
-      (λ has. let up = (is c).0 has in above-content c up.0 rs (sym (contents up.0) ∙ up.1) (is_below-from_IsBelow c up.0 up.2))
-      (λ h. let up = content-above c rs h in (is c).1 (up.0, contents up.0 ∙ up.1, IsBelow-from_is_below c up.0 up.2))
+      (λ has. let up = (is c).0 has in above-content c up.0 rs (sym (contents up.0) ∙ up.1) (is_below-from_IsBelow classes c up.0 up.2))
+      (λ h. let up = content-above c rs h in (is c).1 (up.0, contents up.0 ∙ up.1, IsBelow-from_is_below classes c up.0 up.2))
 
 -- what is in a set that has nothing but what is in another
 pub none_new : (a b : Bool) → (a && not b) ≡ false → a ≡ true → b ≡ true

@@ -5,12 +5,7 @@ pub mod BelowLemmas
 pub mod Below
 pub mod CallLemmas
 pub mod Choices
-pub mod BuildLemmas
-pub mod ClassLemmas
 pub mod CycleLemmas
 pub mod Depth
-pub mod FitLemmas
-pub mod Places
-pub mod ProblemLemmas
 pub mod StockLemmas
-pub mod TextLemmas
+pub mod ProblemLemmas

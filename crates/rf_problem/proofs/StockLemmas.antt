@@ -1,12 +1,49 @@
--- The objects that new nodes come from, behind the named ones.
-use Rattle.std.proofs.Common.{◌≡◌, ◌∙◌, ℕ, zero, suc, ◌+◌, ◌-◌, ◌≤◌, ◌<◌, true, false, List, [], ◌∷◌, ◌++◌, map, length, take, drop, take_all, length-drop, get_or, add-one, refl, sym, ap, inl, inr, arith}
-use Rattle.std.proofs.Math.Seq.{drop-append_seam}
+-- The objects that new nodes come from, and where they stand behind the named ones.
+use Rattle.std.proofs.Common.{◌≡◌, ◌∙◌, ℕ, zero, suc, ◌+◌, ◌-◌, ◌≤◌, ◌<◌, Bool, true, false, if◌then◌else◌, List, [], ◌∷◌, ◌++◌, map, length, take, drop, take_all, length-drop, get_or, add-one, refl, sym, ap, inl, inr, arith}
+use Rattle.std.proofs.Math.Seq.{drop-append_seam, take-suc}
 use Rattle.std.proofs.lemmas.Bool.{cases_Bool}
-use Rattle.std.proofs.lemmas.List.{drop_all, drop_more}
+use Rattle.std.proofs.lemmas.List.{append-nil, drop_all, drop_more, length-take-le, map-append}
 use Rattle.rf_problem.specs.Valid.{concrete_numbers, is_named, named_objects, new_object}
 use Rattle.rf_problem.specs.declared.class.Class.{Class}
 use Rattle.rf_problem.specs.declared.object.ObjectDecl.{ObjectDecl}
-use Rattle.rf_problem.proofs.FitLemmas.{named_objects-new}
+
+-- new objects have no names of their own
+named_objects-new : (ns : List ℕ) → named_objects (map new_object ns) ≡ []
+named_objects-new [] = refl
+named_objects-new (n ∷ ns) = named_objects-new ns
+
+-- the numbers of one class more
+concrete_numbers-push :
+    (n k : ℕ) (xs : List Class) (c : Class) → k ≡ n + length xs →
+    concrete_numbers n (xs ++ c ∷ []) ≡ concrete_numbers n xs ++ (if c.is_abstract then [] else k ∷ [])
+concrete_numbers-push n k [] c e =
+    let same : n ≡ k = omega arith in
+    elim (cases_Bool c.is_abstract) [ inl t ↦ rw t refl | inr f ↦ rw f (ap (λ m. m ∷ []) same) ]
+concrete_numbers-push n k (x ∷ xs) c e =
+    let rest = concrete_numbers-push (suc n) k xs c (omega arith) in
+    elim (cases_Bool x.is_abstract) [ inl t ↦ rw t rest | inr f ↦ rw f (ap (λ ms. n ∷ ms) rest) ]
+
+-- the new objects of one class more
+pub new_objects-more :
+    (classes : List Class) (i : ℕ) (c : Class) (old now : List ObjectDecl) → i < length classes → c ≡ get_or classes i c →
+    old ≡ map new_object (concrete_numbers 0 (take i classes)) → (c.is_abstract ≡ false → now ≡ old ++ new_object i ∷ []) →
+    (c.is_abstract ≡ true → now ≡ old) → now ≡ map new_object (concrete_numbers 0 (take (i + 1) classes))
+new_objects-more classes i c old now l at before add skip =
+    let front : take (i + 1) classes ≡ take i classes ++ c ∷ [] =
+    ap (λ k. take k classes) (add-one i) ∙ take-suc classes i c l ∙ ap (λ d. take i classes ++ d ∷ []) (sym at) in
+    let long : length (take i classes) ≡ i = length-take-le i classes (omega arith) in
+    let count : i ≡ 0 + length (take i classes) = omega arith in
+    let numbers = concrete_numbers-push 0 i (take i classes) c count in
+    let all : map new_object (concrete_numbers 0 (take (i + 1) classes)) ≡ old ++ map new_object (if c.is_abstract then [] else i ∷ []) =
+    ap (λ cs. map new_object (concrete_numbers 0 cs)) front ∙ ap (map new_object) numbers
+    ∙ map-append new_object (concrete_numbers 0 (take i classes)) (if c.is_abstract then [] else i ∷ [])
+    ∙ ap (λ os. os ++ map new_object (if c.is_abstract then [] else i ∷ [])) (sym before) in
+    elim (cases_Bool c.is_abstract) [
+      | inl t ↦ (let same : map new_object (if c.is_abstract then [] else i ∷ []) ≡ [] = ap (λ (b : Bool). map new_object (if b then [] else i ∷ [])) t in
+          skip t ∙ sym (append-nil old) ∙ ap (λ os. old ++ os) (sym same) ∙ sym all)
+      | inr f ↦ (let same : map new_object (if c.is_abstract then [] else i ∷ []) ≡ new_object i ∷ [] = ap (λ (b : Bool). map new_object (if b then [] else i ∷ [])) f in
+          add f ∙ ap (λ os. old ++ os) (sym same) ∙ sym all)
+    ]
 
 -- the objects are those that the new nodes of these classes come from, of which the first has number n
 abbrev pub AreStock : ℕ → List Class → List ObjectDecl → Type 0

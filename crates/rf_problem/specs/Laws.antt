@@ -22,3 +22,9 @@ abbrev pub DepthOfAllIsEnough : Type 0
 DepthOfAllIsEnough =
     (p : Problem) (depth : ℕ) (here inside : Reading) (q : ℕ) (t : List ℕ) → length p.predicates ≤ depth
     → predicate_true p.predicates depth here inside q t ≡ predicate_true p.predicates (length p.predicates) here inside q t
+
+-- a problem is what its lists are
+abbrev pub ProblemIsItsLists : Type 0
+ProblemIsItsLists =
+    (p q : Problem) → p.classes ≡ q.classes → p.references ≡ q.references → p.predicates ≡ q.predicates
+    → p.objects ≡ q.objects → p.assertions ≡ q.assertions → p.scopes ≡ q.scopes → p ≡ q

@@ -2,7 +2,6 @@ pub mod Above
 pub mod Asserted
 pub mod Below
 pub mod Calling
-pub mod ClassLine
 pub mod Classes
 pub mod Contained
 pub mod Cycles
@@ -10,8 +9,6 @@ pub mod Heard
 pub mod Laws
 pub mod Made
 pub mod Parts
-pub mod Plain
 pub mod Raised
 pub mod Reading
-pub mod Text
 pub mod Valid

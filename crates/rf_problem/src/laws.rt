@@ -1,6 +1,6 @@
 //! What holds of problems, each law as the contract of a function that does nothing.
 
-ghost use Rattle.rf_problem.specs.Laws.{BelowIsComputed, DepthOfAllIsEnough, DepthPastRankIsEnough};
+ghost use Rattle.rf_problem.specs.Laws.{BelowIsComputed, DepthOfAllIsEnough, DepthPastRankIsEnough, ProblemIsItsLists};
 
 /// A class is below another exactly where the computed test says so.
 pub fn below_law()
@@ -11,4 +11,9 @@ pub fn below_law()
 pub fn depth_law()
     ensures past_rank { DepthPastRankIsEnough }
     ensures of_all { DepthOfAllIsEnough }
+{}
+
+/// Two problems with the same lists are the same.
+pub fn problem_law()
+    ensures { ProblemIsItsLists }
 {}

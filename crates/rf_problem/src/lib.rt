@@ -1,5 +1,5 @@
-//! A resolved problem: its classes, references, predicates, objects, assertions and scopes, each number
-//! the place of what it stands for.
+//! A resolved problem: its classes, references, predicates, objects, assertions and scopes, each
+//! number the place of what it stands for.
 //!
 //! The type keeps what every problem is: names are names, numbers stand for what is there, no class
 //! extends itself, and there is one object for the new nodes of each class that isn't abstract. So
@@ -12,13 +12,11 @@ mod class;
 mod class_order;
 mod classes;
 mod laws;
-mod line;
 mod make;
 mod object;
 mod parts;
 mod predicate;
 mod problem;
-mod read;
 mod reference;
 mod scope;
 mod stock;
@@ -27,13 +25,13 @@ mod symbol;
 pub use assertion::Assertion;
 pub use class::Class;
 pub use class_order::ClassOrder;
-pub use laws::{below_law, depth_law};
+pub use laws::{below_law, depth_law, problem_law};
 pub use object::{ObjectDecl, ObjectName};
 pub use predicate::{Clause, Literal, Predicate};
 pub use problem::Problem;
-pub use read::{ProblemError, read_problem};
 pub use reference::{RefKind, Reference};
 pub use scope::Scope;
+pub use stock::new_objects;
 pub use symbol::Symbol;
 
 #[cfg(test)]

@@ -32,7 +32,8 @@ fn are_parts(
     assertions: &[Assertion],
     scopes: &[Scope],
 ) -> bool
-    ensures { IsTrue result ↔ AreParts classes.now references.now predicates.now objects.now assertions.now scopes.now }
+    ensures { IsTrue result ↔ AreParts classes.now references.now predicates.now
+        objects.now assertions.now scopes.now }
 {
     if !are_classes(classes) || !are_references(classes, references) {
         return false;
@@ -45,8 +46,8 @@ fn are_parts(
 }
 
 impl Problem {
-    /// The problem of these parts, or None where they aren't what the parts of every problem are. It
-    /// takes no memory. Names are compared pair by pair.
+    /// The problem of these parts, or None where they aren't what the parts of every problem are.
+    /// It takes no memory. Names are compared pair by pair.
     pub fn new(
         classes: Vec<Class>,
         references: Vec<Reference>,
@@ -61,7 +62,9 @@ impl Problem {
         ensures objects { IfSome result (λ p. p.objects ≡ objects.items) }
         ensures assertions { IfSome result (λ p. p.assertions ≡ assertions.items) }
         ensures scopes { IfSome result (λ p. p.scopes ≡ scopes.items) }
-        ensures refused { IfNone result (AreParts classes.items references.items predicates.items objects.items assertions.items scopes.items → ⊥) }
+        ensures refused { IfNone result (
+            AreParts classes.items references.items predicates.items
+            objects.items assertions.items scopes.items → ⊥) }
     {
         if !are_parts(
             &classes,
@@ -83,6 +86,3 @@ impl Problem {
         })
     }
 }
-
-#[cfg(test)]
-mod tests;

@@ -14,10 +14,12 @@ fn new_object(class: u32) -> ObjectDecl
     }
 }
 
-/// The objects that the new nodes come from, one for each of the classes that isn't abstract.
+/// The objects that the new nodes of these classes come from, in the order of the classes: one
+/// `C::new` for each class that isn't abstract. A problem has them behind its named objects.
 pub fn new_objects(alloc: Global, classes: &[Class]) -> Result<Vec<ObjectDecl>, AllocError>
     requires { length classes.now ≤ 256 }
-    ensures { IfOk result (λ objects. objects.items ≡ map new_object (concrete_numbers 0 classes.now)) }
+    ensures { IfOk result (λ objects.
+        objects.items ≡ map new_object (concrete_numbers 0 classes.now)) }
 {
     let mut objects = Vec::new(alloc);
     for (number, class) in classes.iter().enumerate() {

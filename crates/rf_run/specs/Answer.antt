@@ -1,11 +1,11 @@
 use Rattle.std.specs.Prelude.{◌≡◌, ◌<◌, ◌≤◌, ℕ, List, [], ◌∷◌, ◌++◌, length, codes, decimal, Bool, true, false}
-use Rattle.rf_problem.specs.Text.{IsTextOf}
 use Rattle.std.specs.List.{flat_map}
 use Rattle.rf_problem.specs.declared.problem.Problem.{Problem}
 use Rattle.rf_problem.specs.Valid.{is_declared}
 use Rattle.rf_graph.specs.Document.{IsDocument, object_name, reference_name, symbol_name}
 use Rattle.rf_graph.specs.Violations.{Sat, IsVerdict}
 use Rattle.rf_graph.specs.declared.graph.Graph.{Graph}
+use Rattle.rf_source.specs.Source.{IsSource}
 use Rattle.rf_graph.specs.declared.verdict.Verdict.{Verdict}
 use Rattle.rf_graph.specs.declared.verdict.Verdict.TheVariants.{Satisfied, Violated}
 use Rattle.rf_graph.specs.declared.verdict.Violation.{Violation}
@@ -21,7 +21,7 @@ graph_limit = 67108864
 -- the bytes of a problem file are accepted as this problem
 pub record IsAccepted (bytes : List ℕ) (p : Problem) : Type 0 where
   pub short : length bytes ≤ problem_limit
-  pub text : IsTextOf p bytes
+  pub source : IsSource bytes p
 
 -- the bytes of a graph file are this graph of the problem
 pub record IsDrawn (bytes : List ℕ) (p : Problem) (g : Graph) : Type 0 where

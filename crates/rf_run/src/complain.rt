@@ -1,35 +1,13 @@
-ghost use Rattle.std.specs.Prelude.{◌≡◌, ◌↔◌, ◌⊎◌, ◌≤◌, ◌++◌, IfOk, codes, decimal};
-ghost use Rattle.rf_run.specs.Line.{line_of};
+ghost use Rattle.std.specs.Prelude.{◌≡◌, ◌↔◌, ◌⊎◌, ◌≤◌};
 ghost use Rattle.rf_run.specs.Outcome.{Wrote, WroteLine, Complained, IsComplaint, IsRefusedAs};
 ghost use Rattle.rf_run.specs.Refuse.{RefusesTold};
 ghost use Rattle.rf_run.specs.Stop.{IsCutShort};
 
+use crate::Status;
 use crate::answer::Stop;
-use crate::{Refusal, Status};
+use crate::lines::line;
 use rf_io::{Sink, write_all};
-use rf_text::{Text, push_number};
-use std::alloc::{AllocError, Global};
-
-fn numbered(alloc: Global, words: &str, number: u64) -> Result<Text, AllocError>
-    ensures { IfOk result (λ text. text ≡ words.now ++ decimal number ++ codes "\n") }
-{
-    let mut text = Text::from_str(alloc, words)?;
-    push_number(alloc, &mut text, number)?;
-    text.push_str("\n")?;
-    Ok(text)
-}
-
-// The line that names a refusal.
-fn line(alloc: Global, refusal: Refusal) -> Result<Text, AllocError>
-    ensures { IfOk result (λ text. text ≡ line_of refusal) }
-{
-    match refusal {
-        Refusal::ProblemTooLong => Text::from_str(alloc, "problem: too long\n"),
-        Refusal::NotYet(at) => numbered(alloc, "problem: not yet at ", at),
-        Refusal::GraphTooLong => Text::from_str(alloc, "graph: too long\n"),
-        Refusal::BadLine(number) => numbered(alloc, "graph: bad line ", number),
-    }
-}
+use std::alloc::Global;
 
 /// Writes a line to the error output, or what of it can be written.
 pub fn say<E: Sink>(err: &mut E, line: &str)

@@ -11,7 +11,8 @@ use crate::Refusal;
 use crate::answer::Stop;
 use rf_graph::{Graph, GraphError, read_graph};
 use rf_io::{Folder, ReadError, read_file};
-use rf_problem::{Problem, ProblemError, read_problem};
+use rf_problem::Problem;
+use rf_source::{SourceError, read_source};
 use std::alloc::Global;
 
 // The most bytes that a problem file and a graph file may have.
@@ -34,10 +35,10 @@ pub fn open_problem<F: Folder>(alloc: Global, folder: &mut F, name: &str) -> Res
     ensures later { NoneFell (F.faults folder.old) (F.faults folder.new) }
 {
     match read_file(alloc, folder, name, PROBLEM_LIMIT) {
-        Ok(bytes) => match read_problem(alloc, bytes.as_slice()) {
+        Ok(bytes) => match read_source(alloc, bytes.as_slice()) {
             Ok(problem) => Ok(problem),
-            Err(ProblemError::NotYet(at)) => Err(Stop::Refused(Refusal::NotYet(at))),
-            Err(ProblemError::Memory) => Err(Stop::Memory),
+            Err(SourceError::Memory) => Err(Stop::Memory),
+            Err(error) => Err(Stop::Refused(Refusal::Problem(error))),
         },
         Err(ReadError::TooLong) => Err(Stop::Refused(Refusal::ProblemTooLong)),
         Err(ReadError::Fault) => Err(Stop::ReadFault),

@@ -6,6 +6,7 @@
 mod answer;
 mod complain;
 mod file;
+mod lines;
 mod refusal;
 mod reply;
 mod status;

@@ -1,37 +1,32 @@
-ghost use Rattle.std.specs.Prelude.{◌≡◌};
-ghost use Rattle.std.specs.Option.{option_map};
-ghost use Rattle.rf_run.specs.Words.{names_file, files_of};
+ghost use Rattle.std.specs.Prelude.{◌≡◌, ◌⊎◌, None, Some, IfOk, IfErr, IsErrOf};
+ghost use Rattle.rf_run.specs.Words.{files_of};
+ghost use Rattle.rf_run.specs.declared.answer.Stop.TheVariants.{Usage, Memory};
 
+use crate::answer::Stop;
 use rf_text::Text;
+use rf_words::{Command, WordsError, command};
+use std::alloc::Global;
 
 /// The files that the words of a command name.
 #[derive(Drop)]
-pub struct Files<'a> {
-    pub problem: &'a str,
-    pub graph: &'a str,
+pub struct Files {
+    pub problem: Text,
+    pub graph: Text,
 }
 
-fn names_file(word: &str) -> bool
-    ensures { result ≡ names_file word.now }
+/// The files that the words name, where they are a command that is built.
+pub fn named_files(alloc: Global, words: &[Text]) -> Result<Files, Stop>
+    ensures ok { IfOk result (λ files. files_of words.now ≡ Some (files.problem, files.graph)) }
+    ensures usage { IsErrOf result Stop.Usage → files_of words.now ≡ None }
+    ensures others { IfErr result (λ stop. (stop ≡ Usage) ⊎ (stop ≡ Memory)) }
 {
-    match word.as_bytes().first() {
-        None => false,
-        Some(first) => *first != b'-',
-    }
-}
-
-/// The files that the words name, where the words are a command.
-pub fn command(words: &[Text]) -> Option<Files<'_>>
-    ensures { option_map (λ files. (files.problem.now, files.graph.now)) result ≡ files_of words.now }
-{
-    let [word, problem, graph] = words else {
-        return None;
-    };
-    let problem = problem.as_str();
-    let graph = graph.as_str();
-    if word.as_str() == "check" && names_file(problem) && names_file(graph) {
-        Some(Files { problem, graph })
-    } else {
-        None
+    match command(alloc, words) {
+        Ok(Command::Check { file, graph }) => Ok(Files {
+            problem: file,
+            graph,
+        }),
+        Ok(_) => Err(Stop::Usage),
+        Err(WordsError::Usage) => Err(Stop::Usage),
+        Err(WordsError::Memory) => Err(Stop::Memory),
     }
 }

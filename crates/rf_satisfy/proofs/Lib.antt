@@ -12,3 +12,5 @@ pub mod NodeListLemmas
 pub mod SuspectLemmas
 pub mod SuspectEdgeLemmas
 pub mod PruningLemmas
+pub mod EdgeEndLemmas
+pub mod NeighbourLemmas

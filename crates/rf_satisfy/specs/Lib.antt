@@ -1,4 +1,5 @@
 pub mod Edges
+pub mod EdgeEnds
 pub mod Containers
 pub mod Holders
 pub mod Peeling

@@ -1,15 +1,16 @@
 //! Whether symbols hold at nodes of a graph.
 
-ghost use Rattle.std.specs.Prelude.{◌≡◌, ◌<◌, ◌≤◌, ℕ, Bool, IfOk, IsTrue, length, drop, map, slice_index, slice_index_or, None, false, true, [], ◌∷◌, All};
+ghost use Rattle.std.specs.Prelude.{◌≡◌, ◌<◌, ◌≤◌, ℕ, suc, Bool, IfOk, IsTrue, length, drop, map, slice_index, slice_index_or, None, false, true, [], ◌∷◌, All};
 ghost use Rattle.std.specs.List.{list_any, list_all};
 ghost use Rattle.rf_problem.specs.Parts.{predicate_at, arity_of};
-ghost use Rattle.rf_problem.specs.Reading.{is_entry};
+ghost use Rattle.rf_problem.specs.Reading.{is_entry, with_place};
 ghost use Rattle.rf_problem.specs.Valid.{is_free};
 ghost use Rattle.rf_graph.specs.Evaluate.{holds};
 ghost use Rattle.rf_finite.specs.Walks.{walk_below};
 ghost use Rattle.rf_graph.specs.Graph.{has_edge, size_of};
 ghost use Rattle.rf_satisfy.specs.Evaluation.{AreNodes, IsSound, IsSoundClause, atom_at, cell_of, clause_at, declares, literal_at, literals_at, some_atom, some_literals, symbol_at};
 
+use crate::neighbours::neighbours;
 use crate::places::{arguments, of_tuple, place, with_place};
 use crate::pruning::some_fails;
 use crate::steps::{EdgeSteps, TableSteps, mark};
@@ -132,8 +133,40 @@ fn clause_from(
     if !is_of_clause(clause.variables.as_slice(), v) {
         return clause_from(alloc, view, depth, clause, v + 1, places);
     }
+    if let Some(nodes) = neighbours(view, clause.literals.as_slice(), v, places) {
+        return clause_among(alloc, view, depth, clause, v, places, nodes);
+    }
     for x in 0..view.size() {
         if clause_from(alloc, view, depth, clause, v + 1, with_place(places, v, x))? {
+            return Ok(true);
+        }
+    }
+    Ok(false)
+}
+
+/// Whether the literals of the clause hold for one of these nodes for its variable of number `v`,
+/// and some nodes for those behind it.
+#[cycle(eval)]
+fn clause_among(
+    alloc: Global,
+    view: &View<'_>,
+    depth: usize,
+    clause: &Clause,
+    v: usize,
+    places: [u64; 8],
+    nodes: &[u64],
+) -> Result<bool, AllocError>
+    requires sound { IsSoundClause view.now.problem clause.now }
+    requires nodes { AreNodes (size_of view.now.graph) places }
+    requires there { All (λ x. x < size_of view.now.graph) nodes.now }
+    requires variable { v < length clause.now.variables }
+    ensures { IfOk result (λ b.
+        b ≡ list_any (λ x. some_literals view.now.problem view.now.graph depth clause.now
+        (drop (suc v) clause.now.variables) (suc v) (with_place (slice_index places) v x))
+        nodes.now) }
+{
+    for x in nodes {
+        if clause_from(alloc, view, depth, clause, v + 1, with_place(places, v, *x))? {
             return Ok(true);
         }
     }

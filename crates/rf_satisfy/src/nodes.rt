@@ -8,18 +8,24 @@ ghost use Rattle.rf_problem.specs.Classes.{class_at};
 use rf_graph::{Graph, Violation};
 use rf_problem::Problem;
 
+/// The number of the class of a node, or 0 where there is no such node.
 pub fn class_of(graph: &Graph, node: u64) -> u32
-    requires { node < size_of graph.now }
     ensures { result ≡ class_of graph.now node }
 {
-    graph.nodes[node as usize].class
+    match graph.nodes.get(node as usize) {
+        Some(node) => node.class,
+        None => 0,
+    }
 }
 
+/// The number of the object that a node comes from, or 0 where there is no such node.
 pub fn origin_of(graph: &Graph, node: u64) -> u64
-    requires { node < size_of graph.now }
     ensures { result ≡ origin_of graph.now node }
 {
-    graph.nodes[node as usize].origin
+    match graph.nodes.get(node as usize) {
+        Some(node) => node.origin,
+        None => 0,
+    }
 }
 
 fn is_of_abstract_class(problem: &Problem, graph: &Graph, node: u64) -> bool

@@ -13,6 +13,7 @@ ghost use Rattle.rf_satisfy.specs.Suspects.{is_broken, is_suspect};
 ghost use Rattle.rf_satisfy.specs.Tuples.{ArePassing, first_passing};
 
 use crate::evaluate::holds;
+use crate::nodes::origin_of;
 use crate::tuples::longer;
 use crate::view::View;
 use rf_problem::Symbol;
@@ -34,7 +35,10 @@ fn breaks(value: Truth, holds: bool) -> bool
 fn origins(alloc: Global, view: &View<'_>, tuple: &[u64]) -> Result<Vec<u64>, AllocError>
     ensures { IfOk result (λ objects. objects.items ≡ map (origin_of view.now.graph) tuple.now) }
 {
-    tuple.iter().map(|x| view.origin(*x)).collect(alloc)
+    tuple
+        .iter()
+        .map(|x| origin_of(view.graph(), *x))
+        .collect(alloc)
 }
 
 /// Whether neither a value that is stated nor what is asserted altogether is kept at a tuple.
@@ -66,7 +70,7 @@ pub fn is_matching(view: &View<'_>, arg: Option<u64>, x: u64) -> bool
 {
     match arg {
         None => true,
-        Some(object) => object == view.origin(x),
+        Some(object) => object == origin_of(view.graph(), x),
     }
 }
 

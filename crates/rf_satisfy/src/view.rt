@@ -1,14 +1,16 @@
 //! A problem and a graph that fits it.
 
-ghost use Rattle.std.specs.Prelude.{◌≡◌, ◌<◌, ℕ, IfOk, length};
+ghost use Rattle.std.specs.Prelude.{◌≡◌, ◌<◌, ℕ, All, IfOk, length};
 ghost use Rattle.std.specs.Option.{ForSome};
 ghost use Rattle.rf_problem.specs.Asserted.{matches};
 ghost use Rattle.rf_problem.specs.Classes.{is_below};
 ghost use Rattle.rf_graph.specs.Graph.{Fits, class_of, has_edge, origin_of, size_of};
+ghost use Rattle.rf_satisfy.specs.EdgeEnds.{is_listed};
 ghost use Rattle.rf_satisfy.specs.Tuples.{ArePassing};
 
 use crate::edges::EdgeIndex;
 use crate::node_lists::{NodeLists, node_lists};
+use crate::nodes::class_of;
 use rf_graph::Graph;
 use rf_problem::{ClassOrder, Problem};
 use std::alloc::{AllocError, Global};
@@ -73,34 +75,12 @@ impl<'a> View<'a> {
         self.graph().nodes.len() as u64
     }
 
-    /// The number of the class of node `x`, or 0 where there is no such node.
-    fn class_of(&self, x: u64) -> u32
-        requires { 0 < length self.now.problem.classes }
-        ensures value { result ≡ class_of self.now.graph x }
-        ensures there { result < length self.now.problem.classes }
-    {
-        match self.graph().nodes.get(x as usize) {
-            Some(node) => node.class,
-            None => 0,
-        }
-    }
-
-    /// The number of the object that node `x` comes from, or 0 where there is no such node.
-    pub fn origin(&self, x: u64) -> u64
-        ensures { result ≡ origin_of self.now.graph x }
-    {
-        match self.graph().nodes.get(x as usize) {
-            Some(node) => node.origin,
-            None => 0,
-        }
-    }
-
     /// Whether node `x` has class `k`, itself or by one that it extends.
     pub fn has_class(&self, k: u32, x: u64) -> bool
         requires { k < length self.now.problem.classes }
         ensures { result ≡ is_below self.now.problem.classes (class_of self.now.graph x) k }
     {
-        self.order.is_below(self.class_of(x), k)
+        self.order.is_below(class_of(self.graph(), x), k)
     }
 
     /// The nodes that come from an object that an argument matches, in ascending order.
@@ -120,5 +100,20 @@ impl<'a> View<'a> {
         ensures { result ≡ has_edge self.now.graph r x y }
     {
         self.edges.has(r, x, y)
+    }
+    /// The nodes that edges of reference `r` lead to from node `x`.
+    pub fn ends_from(&self, r: u32, x: u64) -> &[u64]
+        ensures listed { (y : ℕ) → is_listed result.now y ≡ has_edge self.now.graph r x y }
+        ensures nodes { All (λ y. y < size_of self.now.graph) result.now }
+    {
+        self.edges.ends_from(r, x)
+    }
+
+    /// The nodes that edges of reference `r` lead from to node `y`.
+    pub fn ends_into(&self, r: u32, y: u64) -> &[u64]
+        ensures listed { (x : ℕ) → is_listed result.now x ≡ has_edge self.now.graph r x y }
+        ensures nodes { All (λ x. x < size_of self.now.graph) result.now }
+    {
+        self.edges.ends_into(r, y)
     }
 }

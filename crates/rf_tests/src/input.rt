@@ -8,7 +8,7 @@ fn copies(alloc: Global, byte: u8, count: usize) -> Result<Vec<u8>, AllocError> 
 }
 
 // Words with blanks between them that are no command.
-fn no_commands() -> [&'static str; 11] {
+fn no_commands() -> [&'static str; 15] {
     [
         "check",
         "check p",
@@ -18,7 +18,11 @@ fn no_commands() -> [&'static str; 11] {
         "check -p g",
         "check p --",
         "Check p g",
-        "generate p",
+        "generate p --seed 01",
+        "generate p --budget 0",
+        "generate p q",
+        "evaluate p",
+        "verify p g",
         "p g check",
         "",
     ]
@@ -71,15 +75,26 @@ fn a_file_that_is_not_there_is_a_read_fault(rt: HostRuntime) -> Result<(), Fail>
     Ok(())
 }
 
-fn bad_problems() -> [(&'static [u8], &'static str); 7] {
+fn bad_problems() -> [(&'static [u8], &'static str); 12] {
     [
-        (b"\xff\n", "problem: not yet at 0\n"),
-        (b"class A.\nclass \xc3\xa9.\n", "problem: not yet at 9\n"),
-        (b"class A.", "problem: not yet at 0\n"),
-        (b"class A.\r\n", "problem: not yet at 0\n"),
-        (b" class A.\n", "problem: not yet at 0\n"),
-        (b"class node.\n", "problem: not yet at 0\n"),
-        (b"class A.\n\n", "problem: not yet at 9\n"),
+        (b"cl\xff", "problem: not utf-8 at 2\n"),
+        (b"class A.\nclass \xc0\x80.", "problem: not utf-8 at 15\n"),
+        (b"class A. #", "problem: bad character at 9\n"),
+        (b"/* x", "problem: open comment at 0\n"),
+        (b"'ab", "problem: open quote at 0\n"),
+        (b"scope node = 1000001.", "problem: big number at 13\n"),
+        (b"class A", "problem: unexpected token 2 at 7\n"),
+        (
+            b"class A { A[2..] r }",
+            "problem: unexpected token 7 at 15\n",
+        ),
+        (b"class class.", "problem: unexpected token 1 at 6\n"),
+        (b"class A. class A.", "problem: twice at 15\n"),
+        (b"class A extends B.", "problem: unknown at 16\n"),
+        (
+            b"abstract class A. A(a). A(A::new).",
+            "problem: unknown at 26\n",
+        ),
     ]
 }
 
@@ -110,20 +125,22 @@ fn bad_input_has_its_line(rt: HostRuntime) -> Result<(), Fail> {
     Ok(())
 }
 
-// Problem files of so many letters.
-fn long_files() -> [(usize, &'static str); 2] {
+// Problem files of so many letters or blanks.
+fn long_files() -> [(u8, usize, &'static str); 4] {
     [
-        (1048576, "problem: not yet at 0\n"),
-        (1048577, "problem: too long\n"),
+        (b'a', 1048576, "problem: long name at 0\n"),
+        (b'a', 1048577, "problem: too long\n"),
+        (b' ', 1048576, "graph: bad line 1\n"),
+        (b' ', 1048577, "problem: too long\n"),
     ]
 }
 
 #[test]
 fn a_file_past_its_limit_is_too_long(rt: HostRuntime) -> Result<(), Fail> {
     let alloc = rt.alloc();
-    for (count, err) in long_files() {
-        let letters = copies(alloc, b'a', count)?;
-        let outcome = check(alloc, letters.as_slice(), b"", &smooth(1048576))?;
+    for (byte, count, err) in long_files() {
+        let file = copies(alloc, byte, count)?;
+        let outcome = check(alloc, file.as_slice(), b"", &smooth(1048576))?;
         outcome.expect(&rt, Status::Refused, "", err, err);
     }
     Ok(())

@@ -6,6 +6,12 @@ mod faults;
 #[cfg(test)]
 mod input;
 #[cfg(test)]
+mod limits;
+#[cfg(test)]
+mod names;
+#[cfg(test)]
 mod rows;
 #[cfg(test)]
 mod setting;
+#[cfg(test)]
+mod statechart;

@@ -1,7 +1,7 @@
 use crate::setting::{check, smooth};
 use rf_graph::{print_graph, read_graph};
-use rf_problem::read_problem;
 use rf_run::Status;
+use rf_source::read_source;
 use std::test::Fail;
 
 #[derive(Clone, Copy)]
@@ -33,45 +33,54 @@ fn refused(problem: &'static str, graph: &'static str, err: &'static str) -> Row
     }
 }
 
-fn rows() -> [Row; 9] {
+const ONE: &str = "class A. scope node = 1.";
+
+fn rows() -> [Row; 10] {
     [
         answered(
-            "class A.\n",
+            ONE,
             "graph 1\nnode A A::new\nend\n",
             Status::Yes,
             "satisfied\n",
         ),
+        answered(
+            ONE,
+            "graph 1\nnode A A::new\nnode A A::new\nend\n",
+            Status::No,
+            "violated scope 0\n",
+        ),
+        refused(ONE, "graph 1\nnode A A::new\n", "graph: bad line 3\n"),
+        refused(ONE, "graph 1\nnode B A::new\nend\n", "graph: bad line 2\n"),
         answered("", "graph 1\nend\n", Status::Yes, "satisfied\n"),
         answered(
-            "class A.\nclass B.\n",
+            "class A. class B.",
             "graph 1\nnode A B::new\nend\n",
             Status::No,
             "violated object B::new\n",
         ),
-        refused(
-            "class A.\n",
-            "graph 1\nnode C A::new\nend\n",
-            "graph: bad line 2\n",
-        ),
-        refused("class A.\nclass A.\n", "", "problem: not yet at 9\n"),
-        refused("class A. scope node = 1.\n", "", "problem: not yet at 0\n"),
         answered(
-            "class A.\nclass B.\n",
-            "graph 1\nnode B B::new\nnode A A::new\nend\n",
+            "class A { A[] r } default !r(*, *). A(a). r(a, b). // b may be anything",
+            "graph 1\nnode A a\nnode A b\nedge A::r 0 1\nend\n",
             Status::Yes,
             "satisfied\n",
         ),
         answered(
-            "class A.\nclass B.\n",
-            "graph 1\nnode A B::new\nnode B A::new\nend\n",
+            "class A { A[] r } default !r(*, *). A(a). r(a, b).",
+            "graph 1\nnode A a\nnode A b\nedge A::r 1 0\nend\n",
             Status::No,
-            "violated object A::new\n",
+            "violated asserted A::r 0 1\n",
         ),
         answered(
-            "class B.\nclass A.\n",
-            "graph 1\nend\n",
+            "class 'a b'. multi m = 2. 'a b'(m). !exists('a b'::new).",
+            "graph 1\nnode 'a b' m\nnode 'a b' m\nend\n",
             Status::Yes,
             "satisfied\n",
+        ),
+        answered(
+            "class A { A[] next } error e(x) <-> next+(x, x).",
+            "graph 1\nnode A A::new\nnode A A::new\nedge A::next 0 1\nedge A::next 1 0\nend\n",
+            Status::No,
+            "violated asserted e 0\n",
         ),
     ]
 }
@@ -96,8 +105,8 @@ fn problems_and_graphs_have_their_answers(rt: HostRuntime) -> Result<(), Fail> {
 #[test]
 fn a_document_is_printed_as_it_was_read(rt: HostRuntime) -> Result<(), Fail> {
     let alloc = rt.alloc();
-    let document = "graph 1\nnode B A::new\nnode A B::new\nnode B B::new\nend\n";
-    let Ok(problem) = read_problem(alloc, b"class A.\nclass B.\n".as_slice()) else {
+    let document = "graph 1\nnode B A::new\nnode A a\nedge A::r 1 0\nend\n";
+    let Ok(problem) = read_source(alloc, b"class A { A[] r } class B. A(a).".as_slice()) else {
         panic!(rt; "the problem is read");
     };
     let Ok(graph) = read_graph(alloc, &problem, document.as_bytes()) else {

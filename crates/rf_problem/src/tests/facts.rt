@@ -1,8 +1,10 @@
 //! What is asserted, and what it admits.
 
-use super::build::{Parts, arity_of, build};
+ghost use Rattle.std.specs.Prelude.{◌≡◌};
+ghost use Rattle.rf_problem.specs.Parts.{arity_of};
+
+use super::parts::{Part, Parts};
 use crate::*;
-use rf_text::{Items, Text};
 use rf_values::{Count, Truth};
 use std::alloc::Global;
 use std::test::Fail;
@@ -12,63 +14,53 @@ const A: u64 = 0;
 
 const NEW: u64 = 1;
 
-fn said(
-    alloc: Global,
-    is_default: bool,
-    symbol: Symbol,
-    args: &[Option<u64>],
-    value: Truth,
-) -> Result<Assertion, Fail> {
-    Ok(Assertion {
-        is_default,
-        symbol,
-        args: Items::from_vec(args.to_vec(alloc)?),
-        value,
-    })
+const ITEM: Symbol = Symbol::Class(0);
+
+const NEXT: Symbol = Symbol::Reference(0);
+
+const BAD: Symbol = Symbol::Predicate(0);
+
+const NEAR: Symbol = Symbol::Predicate(1);
+
+// One class, a reference of it, an error predicate and another, and `a` of 2 to 5 nodes.
+const PARTS: [Part<'static>; 5] = [
+    Part::Class("Item", false, &[]),
+    Part::Reference("next", RefKind::Plain, 0, 0),
+    Part::Predicate(true, 1, None),
+    Part::Predicate(false, 2, None),
+    Part::Named("a", Count { lo: 2, hi: Some(5) }),
+];
+
+// What an assertion says: whether it is a default, its symbol, its arguments and its value.
+type Fact<'a> = (bool, Symbol, &'a [Option<u64>], Truth);
+
+// The problem of the parts above in which these facts are asserted.
+fn stated(alloc: Global, facts: &[Fact]) -> Result<Problem, Fail> {
+    let mut parts = Parts::none(alloc);
+    for part in PARTS {
+        parts.add(part)?;
+    }
+    for (is_default, symbol, args, value) in facts.iter() {
+        parts.add(Part::Fact(*is_default, *symbol, *args, *value))?;
+    }
+    Ok(parts.problem()?.ok_or("no problem")?)
 }
 
-fn predicate(alloc: Global, name: &str, is_error: bool, arity: u8) -> Result<Predicate, Fail> {
-    Ok(Predicate {
-        name: Text::from_str(alloc, name)?,
-        is_error,
-        arity,
-        clauses: Items::from_vec(Vec::new(alloc)),
-    })
-}
-
-// One class, a reference of it, the error predicate 0 and the predicate 1, and `a` of 2 to 5 nodes.
-fn made(alloc: Global, assertions: Vec<Assertion>) -> Result<Problem, Fail> {
-    let mut classes = Vec::new(alloc);
-    classes.push(Class {
-        name: Text::from_str(alloc, "Item")?,
-        is_abstract: false,
-        supers: Items::from_vec(Vec::new(alloc)),
-    })?;
-    let mut references = Vec::new(alloc);
-    references.push(Reference {
-        name: Text::from_str(alloc, "next")?,
-        kind: RefKind::Plain,
-        source: 0,
-        target: 0,
-        range: Count { lo: 0, hi: None },
-        opposite: None,
-    })?;
-    let mut predicates = Vec::new(alloc);
-    predicates.push(predicate(alloc, "bad", true, 1)?)?;
-    predicates.push(predicate(alloc, "near", false, 2)?)?;
-    let parts = Parts {
-        classes,
-        references,
-        predicates,
-        assertions,
-    };
-    let count = Count { lo: 2, hi: Some(5) };
-    let name = Text::from_str(alloc, "a")?;
-    Ok(build(alloc, parts, name, count)?.ok_or("no problem")?)
+fn arity_of(problem: &Problem, symbol: Symbol) -> usize
+    ensures { result ≡ arity_of problem.now.predicates symbol }
+{
+    match symbol {
+        Symbol::Class(_) | Symbol::Exists => 1,
+        Symbol::Reference(_) | Symbol::Equals => 2,
+        Symbol::Predicate(q) => problem
+            .predicates
+            .get(q as usize)
+            .map_or(0, |p| p.arity as usize),
+    }
 }
 
 fn asserted(problem: &Problem, symbol: Symbol, tuple: &[u64]) -> Option<Truth> {
-    if tuple.len() == arity_of(problem.predicates.as_slice(), symbol) {
+    if tuple.len() == arity_of(problem, symbol) {
         Some(problem.asserted(symbol, tuple))
     } else {
         None
@@ -77,48 +69,40 @@ fn asserted(problem: &Problem, symbol: Symbol, tuple: &[u64]) -> Option<Truth> {
 
 #[test]
 fn asserts_as_the_text_says(rt: HostRuntime) -> Result<(), Fail> {
-    let alloc = rt.alloc();
-    let item = Symbol::Class(0);
-    let next = Symbol::Reference(0);
-    let bad = Symbol::Predicate(0);
-    let near = Symbol::Predicate(1);
-    let mut all = Vec::new(alloc);
-    all.push(said(alloc, true, item, &[None], Truth::True)?)?;
-    all.push(said(alloc, false, item, &[Some(A)], Truth::True)?)?;
-    all.push(said(alloc, false, item, &[Some(A)], Truth::False)?)?;
-    all.push(said(alloc, true, next, &[None, None], Truth::False)?)?;
-    all.push(said(alloc, false, next, &[Some(A), None], Truth::True)?)?;
-    all.push(said(alloc, true, near, &[None, None], Truth::True)?)?;
-    all.push(said(alloc, true, near, &[Some(NEW), Some(A)], Truth::False)?)?;
-    all.push(said(alloc, false, near, &[Some(A), Some(A)], Truth::Unknown)?)?;
-    all.push(said(alloc, true, bad, &[None], Truth::True)?)?;
-    all.push(said(alloc, false, bad, &[Some(A)], Truth::True)?)?;
-    all.push(said(alloc, false, Symbol::Exists, &[None], Truth::True)?)?;
-    let problem = made(alloc, all)?;
-    let rows: [(Symbol, &[u64], Truth); 14] = [
+    let facts: [Fact; 11] = [
+        (true, ITEM, &[None], Truth::True),
+        (false, ITEM, &[Some(A)], Truth::True),
+        (false, ITEM, &[Some(A)], Truth::False),
+        (true, NEXT, &[None, None], Truth::False),
+        (false, NEXT, &[Some(A), None], Truth::True),
+        (true, NEAR, &[None, None], Truth::True),
+        (true, NEAR, &[Some(NEW), Some(A)], Truth::False),
+        (false, NEAR, &[Some(A), Some(A)], Truth::Unknown),
+        (true, BAD, &[None], Truth::True),
+        (false, BAD, &[Some(A)], Truth::True),
+        (false, Symbol::Exists, &[None], Truth::True),
+    ];
+    let problem = stated(rt.alloc(), &facts)?;
+    let rows: [(Symbol, &[u64], Truth); 10] = [
         // Two ordinary ones merge, and the default is not heard.
-        (item, &[A], Truth::Error),
-        (item, &[NEW], Truth::True),
+        (ITEM, &[A], Truth::Error),
+        (ITEM, &[NEW], Truth::True),
         // `*` matches each object.
-        (next, &[A, A], Truth::True),
-        (next, &[A, NEW], Truth::True),
-        (next, &[NEW, A], Truth::False),
-        (next, &[NEW, NEW], Truth::False),
+        (NEXT, &[A, NEW], Truth::True),
+        (NEXT, &[NEW, A], Truth::False),
         // An explicit unknown overrides a default; two defaults merge.
-        (near, &[A, A], Truth::Unknown),
-        (near, &[A, NEW], Truth::True),
-        (near, &[NEW, A], Truth::Error),
+        (NEAR, &[A, A], Truth::Unknown),
+        (NEAR, &[NEW, A], Truth::Error),
         // An error predicate is asserted to be false, beside what the text says.
-        (bad, &[NEW], Truth::False),
-        (bad, &[A], Truth::Error),
+        (BAD, &[NEW], Truth::False),
+        (BAD, &[A], Truth::Error),
         (Symbol::Exists, &[NEW], Truth::True),
-        (Symbol::Equals, &[A, A], Truth::Unknown),
         (Symbol::Equals, &[A, NEW], Truth::Unknown),
     ];
-    for (symbol, tuple, want) in rows.iter() {
+    for (symbol, tuple, want) in rows {
         assert_eq!(rt;
-            asserted(&problem, *symbol, tuple),
-            Some(*want),
+            asserted(&problem, symbol, tuple),
+            Some(want),
             "{symbol:?} of {tuple:?}"
         );
     }
@@ -133,44 +117,32 @@ fn admitted(problem: &Problem, object: u64) -> Option<Count> {
     }
 }
 
-fn count(lo: u64, hi: u64) -> Count {
-    Count { lo, hi: Some(hi) }
-}
-
 #[test]
 fn admits_as_the_tables_say(rt: HostRuntime) -> Result<(), Fail> {
     use rf_values::Truth::{Error, False, True, Unknown};
-    let alloc = rt.alloc();
-    // What is asserted of `exists` and of `equals`, and then how many nodes may come from `a`, that
-    // was declared with 2 to 5, and from the new object.
+    // What is asserted of `exists` and of `equals`, and then the ends of how many nodes may come
+    // from `a`, that was declared with 2 to 5, and from the new object.
     for (exists, equals, of_a, of_new) in [
-        (True, True, count(2, 1), count(1, 1)),
-        (True, False, count(2, 0), count(1, 0)),
-        (True, Unknown, count(2, 5), Count { lo: 1, hi: None }),
-        (True, Error, count(2, 0), count(1, 0)),
-        (False, True, count(2, 0), count(0, 0)),
-        (False, False, count(2, 0), count(0, 0)),
-        (False, Unknown, count(2, 0), count(0, 0)),
-        (False, Error, count(2, 0), count(0, 0)),
-        (Unknown, True, count(2, 1), count(0, 1)),
-        (Unknown, False, count(2, 0), count(0, 0)),
-        (Unknown, Unknown, count(2, 5), Count { lo: 0, hi: None }),
-        (Unknown, Error, count(2, 0), count(0, 0)),
-        (Error, True, count(2, 0), count(1, 0)),
-        (Error, False, count(2, 0), count(1, 0)),
-        (Error, Unknown, count(2, 0), count(1, 0)),
-        (Error, Error, count(2, 0), count(1, 0)),
+        (True, True, (2, Some(1)), (1, Some(1))),
+        (True, Unknown, (2, Some(5)), (1, None)),
+        (Unknown, True, (2, Some(1)), (0, Some(1))),
+        (Unknown, False, (2, Some(0)), (0, Some(0))),
+        (Unknown, Unknown, (2, Some(5)), (0, None)),
+        (False, Unknown, (2, Some(0)), (0, Some(0))),
+        (Error, Error, (2, Some(0)), (1, Some(0))),
     ] {
-        let mut all = Vec::new(alloc);
-        all.push(said(alloc, false, Symbol::Exists, &[None], exists)?)?;
-        all.push(said(alloc, false, Symbol::Equals, &[None, None], equals)?)?;
-        let problem = made(alloc, all)?;
-        assert_eq!(rt; admitted(&problem, A), Some(of_a), "{exists:?}, {equals:?}");
-        assert_eq!(rt;
-            admitted(&problem, NEW),
-            Some(of_new),
-            "{exists:?}, {equals:?}"
-        );
+        let facts: [Fact; 2] = [
+            (false, Symbol::Exists, &[None], exists),
+            (false, Symbol::Equals, &[None, None], equals),
+        ];
+        let problem = stated(rt.alloc(), &facts)?;
+        for (object, (lo, hi)) in [(A, of_a), (NEW, of_new)] {
+            assert_eq!(rt;
+                admitted(&problem, object),
+                Some(Count { lo, hi }),
+                "{exists:?}, {equals:?}"
+            );
+        }
     }
     Ok(())
 }

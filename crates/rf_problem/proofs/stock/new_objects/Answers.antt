@@ -1,5 +1,5 @@
 use Rattle.std.proofs.Common.{◌∙◌, sym, ap, arith, true≢false, ◌++◌, ◌∷◌, []}
-use Rattle.rf_problem.proofs.FitLemmas.{new_objects-more}
+use Rattle.rf_problem.proofs.StockLemmas.{new_objects-more}
 use Rattle.rf_problem.proofs.stock.new_objects.Goals as goal
 use Rattle.rf_problem.proofs.stock.new_objects.Goals.{then-not-class+in_ok-push, else-not-class}
 

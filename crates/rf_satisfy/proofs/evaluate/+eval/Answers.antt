@@ -1,11 +1,12 @@
-use Rattle.std.proofs.Common.{rules, arith, sym, ◌∙◌, ◌≡◌, ◌<◌, ◌≤◌, true, ap, max, ℕ, ◌+◌, subst, map, [], ◌∷◌, add-one, length, refl, drop}
-use Rattle.std.proofs.lemmas.List.{drop_all}
+use Rattle.std.proofs.Common.{rules, arith, sym, ◌∙◌, ◌≡◌, ◌<◌, ◌≤◌, true, ap, max, ℕ, ◌+◌, subst, map, [], ◌∷◌, add-one, length, get_or, suc, refl, drop}
+use Rattle.std.proofs.lemmas.List.{drop_all, get_or_default}
 use Rattle.std.specs.Prelude.{slice_index}
 use Rattle.rf_finite.proofs.Range.{some_below-from_one}
 use Rattle.rf_finite.proofs.Lists.{list_any-here, list_any-next}
 use Rattle.rf_finite.proofs.Walks.{walk_below-same}
 use Rattle.rf_graph.specs.Graph.{size_of}
 use Rattle.rf_satisfy.proofs.EvaluationLemmas.{some_places-at, AreNodes-with_place, AreNodes-arguments, AreNodes-pair, atom_at-empty, atom_at-same, symbol_at-same, predicate_true-deeper, row-more, declared-from_IsSound}
+use Rattle.rf_satisfy.proofs.NeighbourLemmas.{some_below-listed}
 use Rattle.rf_satisfy.proofs.PruningLemmas.{pruned}
 use Rattle.rf_satisfy.specs.Evaluation.{symbol_at}
 use Rattle.rf_satisfy.proofs.evaluate.+eval.Goals as goal
@@ -90,6 +91,42 @@ clause_from-returns-then-branch t c =
     let l : c.args.v < length c.args.clause.now.variables = omega arith in
     let here = sym (rw (add-one, c.with_place.ensures) at c.in_ok-clause_from.ensures) ∙ c.if-branch.true in
     rw (some_places-at, e) (sym (some_below-from_one (size_of c.args.view.now.graph) _ c.loop-x.x lx here))
+
+pub clause_from-clause_among-requires : goal.clause_from-clause_among-requires
+clause_from-clause_among-requires t c = (search rules, (c.requires.sound, (c.requires.nodes, (c.in-Some.ensures.nodes, omega arith))))
+
+pub clause_from-returns-in-Some : goal.clause_from-returns-in-Some
+clause_from-returns-in-Some t c =
+    let e = sym (rw c.as_slice-2.ensures at c.is_of_clause.ensures) ∙ c.if-not-is_of_clause.false in
+    let l : c.args.v < length c.args.clause.now.variables = omega arith in
+    let elsewhere = rw c.as_slice-3.ensures at c.in-Some.ensures.elsewhere in
+    let listed = some_below-listed c.args.view.now.problem c.args.view.now.graph c.args.depth c.args.clause.now (drop (suc c.args.v) c.args.clause.now.variables) c.args.v c.args.places
+    c.in-Some.nodes.now elsewhere c.in-Some.ensures.nodes in
+    rw (some_places-at, e, listed) c.clause_among.ensures
+
+pub clause_from-returns : goal.clause_from-returns
+clause_from-returns t c =
+    let e = sym (rw c.as_slice-2.ensures at c.is_of_clause.ensures) ∙ c.if-not-is_of_clause.false in
+    let l : c.args.v < length c.args.clause.now.variables = omega arith in
+    let all : c.loop-x.x ≡ size_of c.args.view.now.graph = omega (arith, c.size-x-end.ensures) in
+    rw (some_places-at, e) (sym (rw all at c.loop-x.invariant))
+
+pub clause_among-clause_from-requires : goal.clause_among-clause_from-requires
+clause_among-clause_from-requires t c =
+    let l : get_or c.args.nodes.now c.loop-x.x-index 0 < size_of c.args.view.now.graph = c.requires.there c.loop-x.x-index 0 c.loop-x-test.true in
+    (search rules, (c.requires.sound, AreNodes-with_place c.with_place.result c.args.places _ c.args.v (get_or c.args.nodes.now c.loop-x.x-index 0) c.with_place.ensures l c.requires.nodes))
+
+pub clause_among-returns-then-branch : goal.clause_among-returns-then-branch
+clause_among-returns-then-branch t c =
+    list_any-here _ c.args.nodes.now c.loop-x.x-index (get_or c.args.nodes.now c.loop-x.x-index 0) c.loop-x-test.true c.loop-x.invariant
+    (get_or_default c.args.nodes.now c.loop-x.x-index 0 (get_or c.args.nodes.now c.loop-x.x-index 0) c.loop-x-test.true)
+    (sym (rw (add-one, c.with_place.ensures) at c.in_ok-clause_from.ensures) ∙ c.if-branch.true)
+
+pub clause_among-loop-x-preserved : goal.clause_among-loop-x-preserved
+clause_among-loop-x-preserved t c =
+    list_any-next _ c.args.nodes.now c.loop-x.x-index (get_or c.args.nodes.now c.loop-x.x-index 0) c.loop-x-test.true c.loop-x.invariant
+    (get_or_default c.args.nodes.now c.loop-x.x-index 0 (get_or c.args.nodes.now c.loop-x.x-index 0) c.loop-x-test.true)
+    (sym (rw (add-one, c.with_place.ensures) at c.in_ok-clause_from.ensures) ∙ c.if-branch.false)
 
 pub literal_holds-atom_holds-requires : goal.literal_holds-atom_holds-requires
 literal_holds-atom_holds-requires t c =

@@ -33,14 +33,22 @@ abbrev pub decreases-all_literals : goal.decreases-all_literals
 decreases-all_literals l = l.depth * 2 ^ 66 + 7 + 2 ^ 64
 
 abbrev pub decreases-clause_from : goal.decreases-clause_from
-decreases-clause_from l = l.depth * 2 ^ 66 + 8 + 2 ^ 64 + (length l.clause.now.variables - l.v)
+decreases-clause_from l = l.depth * 2 ^ 66 + 8 + 2 ^ 64 + 2 * (length l.clause.now.variables - l.v)
+
+abbrev pub decreases-clause_among : goal.decreases-clause_among
+decreases-clause_among l = l.depth * 2 ^ 66 + 7 + 2 ^ 64 + 2 * (length l.clause.now.variables - l.v)
 
 abbrev pub decreases-some_clause : goal.decreases-some_clause
-decreases-some_clause l = l.depth * 2 ^ 66 + 8 + 2 ^ 65
+decreases-some_clause l = l.depth * 2 ^ 66 + 9 + 2 ^ 64 + 2 ^ 65
 
 abbrev pub invariant-clause_from-loop-x : goal.invariant-clause_from-loop-x
 invariant-clause_from-loop-x l =
     some_below l.x (λ x. some_literals l.view.problem l.view.graph l.depth l.clause (drop (suc l.v) l.clause.variables) (suc l.v) (with_place (slice_index l.places) l.v x)) ≡ false
+
+abbrev pub invariant-clause_among-loop-x : goal.invariant-clause_among-loop-x
+invariant-clause_among-loop-x l =
+    list_any (λ x. some_literals l.view.problem l.view.graph l.depth l.clause (drop (suc l.v) l.clause.variables) (suc l.v) (with_place (slice_index l.places) l.v x)) (drop l.x-index l.nodes)
+    ≡ list_any (λ x. some_literals l.view.problem l.view.graph l.depth l.clause (drop (suc l.v) l.clause.variables) (suc l.v) (with_place (slice_index l.places) l.v x)) l.nodes
 
 abbrev pub invariant-all_literals-loop-i : goal.invariant-all_literals-loop-i
 invariant-all_literals-loop-i l = record {

@@ -12,4 +12,4 @@ Fits-empty p = record {
 }
 
 pub judge-requires : goal.judge-requires
-judge-requires g c = subst (Fits c.expect-problem.result) (sym c.empty_graph-graph.ensures) (Fits-empty c.expect-problem.result)
+judge-requires g c = subst (Fits c.in_ok-problem.problem) (sym c.empty_graph-graph.ensures) (Fits-empty c.in_ok-problem.problem)

@@ -1,0 +1,67 @@
+-- What a text that breaks no rule gives to those who make its problem.
+use Rattle.std.proofs.Common.{◌≡◌, ◌∙◌, ◌≤◌, ◌<◌, ◌^◌, ◌⊎◌, ◌++◌, ℕ, All, List, map, length, Result, Ok, Err, IfOk, IfErr, MatchResult, Some, None, refl, sym, ap, subst, inl, inr, arith}
+use Rattle.std.proofs.lemmas.List.Elements.{All-weaker}
+use Rattle.rf_problem.specs.Valid.{concrete_numbers, new_object}
+use Rattle.rf_problem.specs.declared.class.Class.{Class}
+use Rattle.rf_problem.specs.declared.problem.Problem.{Problem}
+use Rattle.rf_problem.proofs.ProblemLemmas.{same_problem}
+use Rattle.rf_syntax.specs.declared.statement.Ast.{Ast}
+use Rattle.rf_resolve.specs.Declarations.{Declared, declared_in, references_of}
+use Rattle.rf_resolve.specs.Fault.{Passes, Resolves, fault_of}
+use Rattle.rf_resolve.specs.LookUp.{named_objects}
+use Rattle.rf_resolve.specs.Readable.{IsReadableDeclared, IsReadableTree}
+use Rattle.rf_resolve.specs.Resolved.{IsResolved, resolved_class, resolved_object, resolved_reference}
+use Rattle.rf_resolve.specs.declared.error.LimitKind.TheVariants.{Classes}
+use Rattle.rf_resolve.specs.declared.error.NameError.{NameError}
+use Rattle.rf_resolve.specs.declared.error.NameError.TheVariants.{Memory}
+use Rattle.rf_resolve.proofs.ClassesFit.{class_count}
+use Rattle.rf_resolve.proofs.ClearPlaces.{few-from_first_past}
+use Rattle.rf_resolve.proofs.PairFacts.{All-unmap}
+use Rattle.rf_resolve.proofs.Passing.{passes}
+use Rattle.rf_resolve.proofs.ReadableParts.{readable_declared}
+use Rattle.rf_resolve.proofs.ReferencesFit.{references_fit}
+
+-- there are few classes
+classes_few : (d : Declared) → fault_of d ≡ None → length d.classes ≤ 256
+classes_few d sound = few-from_first_past (λ c. c.name) 256 d.classes ((passes d sound).limits Classes)
+
+pub classes_made_few :
+    (d : Declared) → fault_of d ≡ None → (classes : List Class) → classes ≡ map (resolved_class d) d.classes → length classes ≤ 256
+classes_made_few d sound classes made =
+    let few = classes_few d sound in
+    let many = class_count d in
+    let count : length classes ≡ length (map (resolved_class d) d.classes) = ap length made in
+    omega arith
+
+-- so the number of the class of each reference is small
+pub sources_small :
+    (ast : Ast) (d : Declared) → d ≡ declared_in ast → IsReadableTree ast → fault_of d ≡ None →
+    All (λ r. r.source < 2 ^ 32) d.references
+sources_small ast d is readable sound =
+    let fit = references_fit d (ap (λ x. x.references) is ∙ ap (λ x. references_of 0 x.classes) (sym is)) (passes d sound)
+    (subst IsReadableDeclared (sym is) (readable_declared ast readable)) in
+    let few = classes_few d sound in
+    let many = class_count d in
+    All-weaker (λ r. r.source < length (map (resolved_class d) d.classes)) (λ r. r.source < 2 ^ 32)
+    (λ r below. omega arith) d.references
+    (All-unmap (λ r. r.source < length (map (resolved_class d) d.classes)) (resolved_reference d) d.references fit.sources)
+
+-- the declarations stand for one problem at most
+pub one_problem : (d : Declared) (p q : Problem) → IsResolved d p → IsResolved d q → p ≡ q
+one_problem d p q a b =
+    let classes : p.classes ≡ q.classes = a.classes ∙ sym b.classes in
+    same_problem p q classes (a.references ∙ sym b.references) (a.predicates ∙ sym b.predicates)
+    (a.objects ∙ ap (λ cs. map (resolved_object d) (named_objects d) ++ map new_object (concrete_numbers 0 cs)) classes ∙ sym b.objects)
+    (a.assertions ∙ sym b.assertions) (a.scopes ∙ sym b.scopes)
+
+-- what makes that problem gives no other, and fails for want of memory alone
+pub found_one :
+    (ast : Ast) (d : Declared) → d ≡ declared_in ast → (p : Problem) (result : Result Problem NameError) → Resolves ast p →
+    IfOk result (λ q. IsResolved d q) → IfErr result (λ e. (e ≡ Memory) ⊎ (fault_of d ≡ Some e)) →
+    MatchResult result (λ q. q ≡ p) (λ e. e ≡ Memory)
+found_one ast d same p (Ok q) is made failed =
+    one_problem d q p made (subst (λ x. IsResolved x p) (sym same) is.resolved)
+found_one ast d same p (Err e) is made failed = elim failed [
+  | inl memory ↦ memory
+  | inr fault ↦ (let never : None ≡ Some e = sym is.sound ∙ ap fault_of (sym same) ∙ fault in absurd cc)
+]

@@ -1,0 +1,7 @@
+use Rattle.std.proofs.Common.{◌≡◌, map, take}
+use Rattle.rf_resolve.specs.Resolved.{resolved_clause}
+use Rattle.rf_resolve.proofs.predicates.clauses_of.Given as goal
+
+abbrev pub invariant-loop-clause : goal.invariant-loop-clause
+invariant-loop-clause l = l.resolved.items ≡ map (resolved_clause l.names.declared.now l.params)
+    (take l.clause-index l.clauses)

@@ -1,0 +1,236 @@
+-- The problem that a text stands for: each list is that of its declarations in order, and each number
+-- the place of what its name stands for.
+use Rattle.std.specs.Prelude.{◌≡◌, ◌==◌, ◌&&◌, not, nat_lt, ℕ, suc, Bool, true, false, List, [], ◌∷◌, ◌++◌, map, length, position, slice_index_or, Option, None, Some, if◌then◌else◌, codes}
+use Rattle.std.specs.List.{list_any, range_with_len}
+use Rattle.std.specs.Option.{option_map}
+use Rattle.rf_problem.specs.declared.assertion.Assertion.{Assertion}
+use Rattle.rf_problem.specs.declared.class.Class.{Class}
+use Rattle.rf_problem.specs.declared.object.ObjectDecl.{ObjectDecl}
+use Rattle.rf_problem.specs.declared.object.ObjectName.TheVariants.{Named}
+use Rattle.rf_problem.specs.declared.predicate.Clause.{Clause}
+use Rattle.rf_problem.specs.declared.predicate.Literal.{Literal}
+use Rattle.rf_problem.specs.declared.predicate.Literal.TheVariants.{Call as Calls, Same as IsSame, Differ as Differs}
+use Rattle.rf_problem.specs.declared.predicate.Predicate.{Predicate}
+use Rattle.rf_problem.specs.declared.problem.Problem.{Problem}
+use Rattle.rf_problem.specs.declared.reference.RefKind.{RefKind}
+use Rattle.rf_problem.specs.declared.reference.RefKind.TheVariants.{Plain, Contains, Container}
+use Rattle.rf_problem.specs.declared.reference.Reference.{Reference}
+use Rattle.rf_problem.specs.declared.scope.Scope.{Scope}
+use Rattle.rf_problem.specs.declared.symbol.Symbol.{Symbol}
+use Rattle.rf_problem.specs.declared.symbol.Symbol.TheVariants.{Class as OfClass, Exists}
+use Rattle.rf_problem.specs.Valid.{concrete_numbers, new_object}
+use Rattle.rf_syntax.specs.declared.assertion.Arg.{Arg}
+use Rattle.rf_syntax.specs.declared.assertion.Arg.TheVariants.{Star, Symbol as OfSymbol}
+use Rattle.rf_syntax.specs.declared.class.FeatureWord.{FeatureWord}
+use Rattle.rf_syntax.specs.declared.class.FeatureWord.TheVariants.{Contains as ContainsWord, Container as ContainerWord, Refers}
+use Rattle.rf_syntax.specs.declared.class.MultPlace.{MultPlace}
+use Rattle.rf_syntax.specs.declared.class.MultPlace.TheVariants.{Absent as NoMult, AfterType, AfterName}
+use Rattle.rf_syntax.specs.declared.name.Name.{Name}
+use Rattle.rf_syntax.specs.declared.predicate.BodyLiteral.{BodyLiteral}
+use Rattle.rf_syntax.specs.declared.predicate.BodyLiteral.TheVariants.{Call, Same, Differ}
+use Rattle.rf_syntax.specs.declared.predicate.Param.{Param}
+use Rattle.rf_syntax.specs.declared.range.Range.{Range}
+use Rattle.rf_syntax.specs.declared.range.Upper.{Upper}
+use Rattle.rf_syntax.specs.declared.range.Upper.TheVariants.{Absent, Star as Unbounded, Number}
+use Rattle.rf_syntax.specs.declared.statement.Bound.{Bound}
+use Rattle.rf_syntax.specs.declared.statement.Item.{Item}
+use Rattle.rf_values.specs.declared.count.Count.{Count}
+use Rattle.rf_resolve.specs.Bodies.{clause_variables, is_variable_of, literal_names, param_names, with_variable, with_variables}
+use Rattle.rf_resolve.specs.Declarations.{AssertDecl, ClassDecl, Declared, PredicateDecl, ReferenceDecl}
+use Rattle.rf_resolve.specs.LookUp.{assertion_symbols, class_named, item_named, literal_symbols, members_of_some, named_objects, new_object_of, numbers_where, object_named, reads, sense_of}
+use Rattle.rf_resolve.specs.declared.sense.Sense.{Sense}
+use Rattle.rf_resolve.specs.declared.sense.Sense.TheVariants.{Nothing, One, Several}
+
+-- the number that is there
+abbrev pub the_number : Option ℕ → ℕ
+the_number None = 0
+the_number (Some n) = n
+
+-- the first number
+abbrev pub the_first : List ℕ → Option ℕ
+the_first [] = None
+the_first (n ∷ ns) = Some n
+
+-- the symbol that a name stands for
+abbrev pub the_symbol : Sense → Symbol
+the_symbol Nothing = Exists
+the_symbol (One s) = s
+the_symbol Several = Exists
+
+-- the upper end of a range: that of its lower number alone is that number
+abbrev pub upper_end : ℕ → Upper → Option ℕ
+upper_end lo Absent = Some lo
+upper_end lo Unbounded = None
+upper_end lo (Number n) = Some n
+
+abbrev pub count_of_range : Range → Count
+count_of_range r = record { lo = r.lo; hi = upper_end r.lo r.hi }
+
+-- any number
+abbrev pub any_number : Count
+any_number = record { lo = 0; hi = None }
+
+-- the count of a range that may be left out: any number without it
+abbrev pub count_or_any : Option Range → Count
+count_or_any None = any_number
+count_or_any (Some r) = count_of_range r
+
+-- the range of a reference: 0 to 1 without a multiplicity, any number by empty brackets
+abbrev pub count_of_mult : MultPlace → Count
+count_of_mult NoMult = record { lo = 0; hi = Some 1 }
+count_of_mult (AfterType m) = count_or_any m.range
+count_of_mult (AfterName m) = count_or_any m.range
+
+-- the kind of a reference, by the word in front of it
+abbrev pub kind_of_word : Option FeatureWord → RefKind
+kind_of_word None = Plain
+kind_of_word (Some Refers) = Plain
+kind_of_word (Some ContainsWord) = Contains
+kind_of_word (Some ContainerWord) = Container
+
+-- a class
+abbrev pub resolved_class : Declared → ClassDecl → Class
+resolved_class d c = record {
+  name = c.name.text;
+  is_abstract = c.is_abstract;
+  supers = map (λ s. the_number (class_named d s.text)) c.supers;
+}
+
+-- what the name behind `opposite` stands for: a member of the target
+abbrev pub opposites_named : Declared → ReferenceDecl → Name → List ℕ
+opposites_named d r name = members_of_some d (class_named d r.feature.target.text) name.text
+
+abbrev pub opposite_of : Declared → ReferenceDecl → Option Name → Option ℕ
+opposite_of d r None = None
+opposite_of d r (Some name) = the_first (opposites_named d r name)
+
+-- a reference
+abbrev pub resolved_reference : Declared → ReferenceDecl → Reference
+resolved_reference d r = record {
+  name = r.feature.name.text;
+  kind = kind_of_word r.feature.word;
+  source = r.source;
+  target = the_number (class_named d r.feature.target.text);
+  range = count_of_mult r.feature.mult;
+  opposite = opposite_of d r r.feature.opposite;
+}
+
+-- the number of the variable that a name stands for, behind these variables
+abbrev pub variable_number : List Name → Name → ℕ
+variable_number known name =
+    if is_variable_of known name then the_number (position (reads name.text) known) else length known
+
+-- the numbers of the variables that names stand for, one after another
+abbrev pub variable_numbers : List Name → List Name → List ℕ
+variable_numbers known [] = []
+variable_numbers known (n ∷ ns) = variable_number known n ∷ variable_numbers (with_variable known n) ns
+
+-- a literal behind these variables
+abbrev pub resolved_literal : Declared → List Name → BodyLiteral → Literal
+resolved_literal d known (Call negated symbol closure args) =
+    Calls negated closure (the_symbol (sense_of (literal_symbols d symbol))) (variable_numbers known args)
+resolved_literal d known (Same a b) = IsSame (variable_number known a) (variable_number (with_variable known a) b)
+resolved_literal d known (Differ a b) = Differs (variable_number known a) (variable_number (with_variable known a) b)
+
+-- literals, one after another
+abbrev pub resolved_literals : Declared → List Name → List BodyLiteral → List Literal
+resolved_literals d known [] = []
+resolved_literals d known (l ∷ ls) =
+    resolved_literal d known l ∷ resolved_literals d (with_variables known (literal_names l)) ls
+
+-- the literal of a parameter that has a class, where n is the number of the parameter
+abbrev pub class_literal : Declared → ℕ → Option Name → List Literal
+class_literal d n None = []
+class_literal d n (Some class) = Calls false false (OfClass (the_number (class_named d class.text))) (n ∷ []) ∷ []
+
+-- those of the parameters, which have the numbers from n on
+abbrev pub class_literals : Declared → ℕ → List Param → List Literal
+class_literals d n [] = []
+class_literals d n (p ∷ ps) = class_literal d n p.class ++ class_literals d (suc n) ps
+
+-- whether a literal names variable v
+abbrev pub mentions : ℕ → Literal → Bool
+mentions v (Calls negated closure symbol args) = list_any (λ a. a == v) args
+mentions v (IsSame a b) = list_any (λ x. x == v) (a ∷ b ∷ [])
+mentions v (Differs a b) = list_any (λ x. x == v) (a ∷ b ∷ [])
+
+-- whether it is negated and names variable v
+abbrev pub negates : ℕ → Literal → Bool
+negates v (Calls negated closure symbol args) = negated && list_any (λ a. a == v) args
+negates v (IsSame a b) = false
+negates v (Differs a b) = false
+
+-- the one literal, where there is one alone
+abbrev pub only_one : List ℕ → Option ℕ
+only_one [] = None
+only_one (i ∷ []) = Some i
+only_one (i ∷ j ∷ is) = None
+
+-- where a variable is quantified: inside the one literal that names it, where that is negated, else
+-- over the clause
+abbrev pub negation_around : List Literal → ℕ → Option ℕ
+negation_around literals v =
+    if list_any (negates v) literals then only_one (numbers_where 0 (mentions v) literals) else None
+
+-- the entry of a variable; parameters have none
+abbrev pub entry_of : ℕ → List Literal → ℕ → Option ℕ
+entry_of arity literals v = if nat_lt v arity then None else negation_around literals v
+
+-- a clause: its literals as they are written, and behind them those of the typed parameters
+abbrev pub all_literals : Declared → List Param → List BodyLiteral → List Literal
+all_literals d params clause = resolved_literals d (param_names params) clause ++ class_literals d 0 params
+
+abbrev pub resolved_clause : Declared → List Param → List BodyLiteral → Clause
+resolved_clause d params clause = record {
+  variables = map (entry_of (length params) (all_literals d params clause)) (range_with_len 0 (length (clause_variables params clause)));
+  literals = all_literals d params clause;
+}
+
+-- a predicate
+abbrev pub resolved_predicate : Declared → PredicateDecl → Predicate
+resolved_predicate d p = record {
+  name = p.name.text;
+  is_error = p.is_error;
+  arity = length p.params;
+  clauses = map (resolved_clause d p.params) p.clauses;
+}
+
+-- the count of a named object: that of its `multi`, and one without it
+abbrev pub count_of_item : Option Item → Count
+count_of_item None = record { lo = 1; hi = Some 1 }
+count_of_item (Some i) = count_or_any i.range
+
+-- a named object
+abbrev pub resolved_object : Declared → Name → ObjectDecl
+resolved_object d n = record { name = Named n.text; count = count_of_item (item_named d n.text) }
+
+-- the object that an argument stands for: a name alone, or the new nodes of a class
+abbrev pub object_or_new : Declared → Name → Option Name → ℕ
+object_or_new d name None = the_number (object_named d name.text)
+object_or_new d name (Some member) = new_object_of d (the_number (class_named d name.text))
+
+abbrev pub resolved_arg : Declared → Arg → Option ℕ
+resolved_arg d Star = None
+resolved_arg d (OfSymbol s) = Some (object_or_new d s.name s.member)
+
+-- an assertion
+abbrev pub resolved_assertion : Declared → AssertDecl → Assertion
+resolved_assertion d a = record {
+  is_default = a.is_default;
+  symbol = the_symbol (sense_of (assertion_symbols d a.atom.symbol));
+  args = map (resolved_arg d) a.atom.args;
+  value = a.value;
+}
+
+-- a scope; `node` stands for no class
+abbrev pub resolved_scope : Declared → Bound → Scope
+resolved_scope d b = record { class = class_named d b.name.text; only_new = b.only_new; range = count_of_range b.range }
+
+-- the problem is the one that the declarations stand for
+pub record IsResolved (d : Declared) (p : Problem) : Type 0 where
+  pub classes : p.classes ≡ map (resolved_class d) d.classes
+  pub references : p.references ≡ map (resolved_reference d) d.references
+  pub predicates : p.predicates ≡ map (resolved_predicate d) d.predicates
+  pub objects : p.objects ≡ map (resolved_object d) (named_objects d) ++ map new_object (concrete_numbers 0 p.classes)
+  pub assertions : p.assertions ≡ map (resolved_assertion d) d.assertions
+  pub scopes : p.scopes ≡ map (resolved_scope d) d.bounds

@@ -1,0 +1,95 @@
+//! The assertions of a problem.
+
+ghost use Rattle.std.specs.Prelude.{◌≡◌, IfOk, map};
+ghost use Rattle.rf_resolve.specs.LookUp.{class_named, new_object_of};
+ghost use Rattle.rf_resolve.specs.Resolved.{object_or_new, resolved_arg, resolved_assertion, the_number, the_symbol};
+
+use crate::Sense;
+use crate::forms::AssertForm;
+use crate::names::Names;
+use rf_problem::{Assertion, Symbol};
+use rf_syntax::{Arg, Name};
+use rf_text::Items;
+use std::alloc::{AllocError, Global};
+
+/// The symbol that a name stands for. Where no rule is broken there is one.
+pub fn the_symbol(sense: Sense) -> Symbol
+    ensures { result ≡ the_symbol sense }
+{
+    match sense {
+        Sense::One(symbol) => symbol,
+        Sense::Nothing | Sense::Several => Symbol::Exists,
+    }
+}
+
+// The number of the object that the new nodes of the class of this name come from.
+fn new_object_number(names: &Names, class: &str) -> u64
+    ensures { result ≡ new_object_of names.now.declared.now
+        (the_number (class_named names.now.declared.now class.now)) }
+{
+    match names.class_named(class) {
+        Some(class) => names.new_object_of(class),
+        None => names.objects().len() as u64,
+    }
+}
+
+fn object_or_new(names: &Names, name: &Name, member: &Option<Name>) -> u64
+    ensures { result ≡ object_or_new names.now.declared.now name.now member.now }
+{
+    let text = name.text.as_str();
+    match member {
+        None => names.object_named(text).unwrap_or(0),
+        Some(_) => new_object_number(names, text),
+    }
+}
+
+fn resolved_arg(names: &Names, arg: &Arg) -> Option<u64>
+    ensures { result ≡ resolved_arg names.now.declared.now arg.now }
+{
+    match arg {
+        Arg::Star => None,
+        Arg::Symbol(s) => Some(object_or_new(names, &s.name, &s.member)),
+    }
+}
+
+fn resolved_args(alloc: Global, names: &Names, args: &[Arg]) -> Result<Vec<Option<u64>>, AllocError>
+    ensures { IfOk result (λ numbers. numbers.items
+        ≡ map (resolved_arg names.now.declared.now) args.now) }
+{
+    let mut numbers = Vec::new(alloc);
+    for arg in args {
+        numbers.push(resolved_arg(names, arg))?;
+    }
+    Ok(numbers)
+}
+
+fn resolved_assertion(
+    alloc: Global,
+    names: &Names,
+    form: &AssertForm,
+) -> Result<Assertion, AllocError>
+    ensures { IfOk result (λ assertion.
+        assertion ≡ resolved_assertion names.now.declared.now form.now) }
+{
+    let sense = names.assertion_sense(alloc, &form.atom.symbol)?;
+    let args = resolved_args(alloc, names, form.atom.args.as_slice())?;
+    Ok(Assertion {
+        is_default: form.is_default,
+        symbol: the_symbol(sense),
+        args: Items::from_vec(args),
+        value: form.value,
+    })
+}
+
+/// The assertions that are stated.
+pub fn resolved_assertions(alloc: Global, names: &Names) -> Result<Vec<Assertion>, AllocError>
+    ensures { IfOk result (λ assertions. assertions.items
+        ≡ map (resolved_assertion names.now.declared.now) names.now.declared.now.assertions) }
+{
+    let declared = names.declared;
+    let mut assertions = Vec::new(alloc);
+    for form in declared.assertions.as_slice() {
+        assertions.push(resolved_assertion(alloc, names, form)?)?;
+    }
+    Ok(assertions)
+}

@@ -1,0 +1,58 @@
+//! The references of a problem.
+
+ghost use Rattle.std.specs.Prelude.{◌≡◌, ◌<◌, ◌^◌, All, IfOk, map};
+ghost use Rattle.rf_resolve.specs.Resolved.{kind_of_word, resolved_reference};
+
+use crate::building::classes::class_number;
+use crate::building::multiplicity::count_of_mult;
+use crate::forms::ReferenceForm;
+use crate::names::Names;
+use crate::opposites::opposite;
+use rf_problem::{RefKind, Reference};
+use rf_syntax::FeatureWord;
+use std::alloc::{AllocError, Global};
+
+fn kind_of_word(word: Option<FeatureWord>) -> RefKind
+    ensures { result ≡ kind_of_word word }
+{
+    match word {
+        None | Some(FeatureWord::Refers) => RefKind::Plain,
+        Some(FeatureWord::Contains) => RefKind::Contains,
+        Some(FeatureWord::Container) => RefKind::Container,
+    }
+}
+
+fn resolved_reference(
+    alloc: Global,
+    names: &Names,
+    form: &ReferenceForm,
+) -> Result<Reference, AllocError>
+    requires { form.now.source < 2 ^ 32 }
+    ensures { IfOk result (λ reference.
+        reference ≡ resolved_reference names.now.declared.now form.now) }
+{
+    let name = form.feature.name.text.clone()?;
+    let opposite = opposite(alloc, names, form)?;
+    Ok(Reference {
+        name,
+        kind: kind_of_word(form.feature.word),
+        source: form.source as u32,
+        target: class_number(names, &form.feature.target),
+        range: count_of_mult(form.feature.mult),
+        opposite,
+    })
+}
+
+/// The references that are declared.
+pub fn resolved_references(alloc: Global, names: &Names) -> Result<Vec<Reference>, AllocError>
+    requires { All (λ r. r.source < 2 ^ 32) names.now.declared.now.references }
+    ensures { IfOk result (λ references. references.items
+        ≡ map (resolved_reference names.now.declared.now) names.now.declared.now.references) }
+{
+    let declared = names.declared;
+    let mut references = Vec::new(alloc);
+    for form in declared.references.as_slice() {
+        references.push(resolved_reference(alloc, names, form)?)?;
+    }
+    Ok(references)
+}

@@ -1,0 +1,117 @@
+//! The first rule of names that is broken.
+
+ghost use Rattle.std.specs.Prelude.{◌≡◌, ◌∷◌, [], IfOk};
+ghost use Rattle.std.specs.Option.{option_map};
+ghost use Rattle.rf_resolve.specs.Fault.{earliest, fault_of, first_of, least_of, limit_error};
+ghost use Rattle.rf_resolve.specs.Limits.{limit_kinds};
+ghost use Rattle.rf_resolve.specs.Places.{ambiguous_places, arity_places, bad_container_places, bad_opposite_places, bad_range_places, cycle_places, equals_two_places, loose_places, recursive_places, twice_places, unknown_places};
+ghost use Rattle.rf_resolve.specs.declared.error.NameError.TheVariants.{Ambiguous, Arity, BadContainer, BadOpposite, BadRange, ClassCycle, EqualsTwo, LooseVariable, Recursive, Twice, Unknown};
+
+use crate::NameError;
+use crate::ambiguous::ambiguous;
+use crate::arity::arity;
+use crate::containers::bad_container;
+use crate::cycles::class_cycle;
+use crate::equals::equals_two;
+use crate::limits::limits;
+use crate::loose::loose_variable;
+use crate::names::Names;
+use crate::opposites::bad_opposite;
+use crate::ranges::bad_range;
+use crate::recursive::recursive;
+use crate::twice::twice;
+use crate::unknown::unknown;
+use std::alloc::{AllocError, Global};
+
+/// The first rule that is broken, with its least place. A rule is asked only where those in front
+/// of it hold.
+pub fn first_fault(alloc: Global, names: &Names<'_>) -> Result<Option<NameError>, AllocError>
+    ensures { IfOk result (λ e. e ≡ fault_of names.now.declared.now) }
+{
+    if let Some(error) = fault_of_names(alloc, names)? {
+        return Ok(Some(error));
+    }
+    if let Some(error) = fault_of_classes(alloc, names)? {
+        return Ok(Some(error));
+    }
+    if let Some(error) = fault_of_predicates(alloc, names)? {
+        return Ok(Some(error));
+    }
+    fault_of_rest(alloc, names)
+}
+
+fn fault_of_names(alloc: Global, names: &Names<'_>) -> Result<Option<NameError>, AllocError>
+    ensures { IfOk result (λ e. e ≡ first_of (
+        option_map Twice (least_of (twice_places names.now.declared.now))
+        ∷ option_map Unknown (least_of (unknown_places names.now.declared.now))
+        ∷ option_map Ambiguous (least_of (ambiguous_places names.now.declared.now))
+        ∷ [])) }
+{
+    if let Some(at) = twice(alloc, names.declared)? {
+        return Ok(Some(NameError::Twice(at)));
+    }
+    if let Some(at) = unknown(alloc, names)? {
+        return Ok(Some(NameError::Unknown(at)));
+    }
+    if let Some(at) = ambiguous(alloc, names)? {
+        return Ok(Some(NameError::Ambiguous(at)));
+    }
+    Ok(None)
+}
+
+fn fault_of_classes(alloc: Global, names: &Names<'_>) -> Result<Option<NameError>, AllocError>
+    ensures { IfOk result (λ e. e ≡ first_of (
+        option_map ClassCycle (least_of (cycle_places names.now.declared.now))
+        ∷ option_map BadOpposite (least_of (bad_opposite_places names.now.declared.now))
+        ∷ option_map BadContainer (least_of (bad_container_places names.now.declared.now))
+        ∷ option_map BadRange (least_of (bad_range_places names.now.declared.now))
+        ∷ [])) }
+{
+    if let Some(at) = class_cycle(alloc, names)? {
+        return Ok(Some(NameError::ClassCycle(at)));
+    }
+    if let Some(at) = bad_opposite(alloc, names)? {
+        return Ok(Some(NameError::BadOpposite(at)));
+    }
+    if let Some(at) = bad_container(alloc, names)? {
+        return Ok(Some(NameError::BadContainer(at)));
+    }
+    if let Some(at) = bad_range(names.declared) {
+        return Ok(Some(NameError::BadRange(at)));
+    }
+    Ok(None)
+}
+
+fn fault_of_predicates(alloc: Global, names: &Names<'_>) -> Result<Option<NameError>, AllocError>
+    ensures { IfOk result (λ e. e ≡ first_of (
+        option_map Arity (least_of (arity_places names.now.declared.now))
+        ∷ option_map LooseVariable (least_of (loose_places names.now.declared.now))
+        ∷ option_map Recursive (least_of (recursive_places names.now.declared.now))
+        ∷ [])) }
+{
+    if let Some(at) = arity(alloc, names)? {
+        return Ok(Some(NameError::Arity(at)));
+    }
+    if let Some(at) = loose_variable(alloc, names)? {
+        return Ok(Some(NameError::LooseVariable(at)));
+    }
+    if let Some(at) = recursive(alloc, names)? {
+        return Ok(Some(NameError::Recursive(at)));
+    }
+    Ok(None)
+}
+
+fn fault_of_rest(alloc: Global, names: &Names<'_>) -> Result<Option<NameError>, AllocError>
+    ensures { IfOk result (λ e. e ≡ first_of (
+        option_map EqualsTwo (least_of (equals_two_places names.now.declared.now))
+        ∷ option_map limit_error (earliest names.now.declared.now limit_kinds)
+        ∷ [])) }
+{
+    if let Some(at) = equals_two(alloc, names)? {
+        return Ok(Some(NameError::EqualsTwo(at)));
+    }
+    if let Some(past) = limits(alloc, names)? {
+        return Ok(Some(NameError::Limit(past.kind, past.at)));
+    }
+    Ok(None)
+}

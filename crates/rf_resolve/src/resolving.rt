@@ -1,0 +1,69 @@
+ghost use Rattle.std.specs.Prelude.{◌≡◌, ◌≢◌, ◌⊎◌, ℕ, IfOk, IfErr, MatchResult, None, Some};
+ghost use Rattle.rf_problem.specs.declared.problem.Problem.{Problem};
+ghost use Rattle.rf_resolve.specs.Fault.{NameFault, Resolves, fault_of};
+ghost use Rattle.rf_resolve.specs.Readable.{IsReadableTree};
+ghost use Rattle.rf_resolve.specs.Resolved.{IsResolved};
+ghost use Rattle.rf_resolve.specs.Texts.{IsOfText};
+
+use crate::NameError;
+use crate::building::assertions::resolved_assertions;
+use crate::building::classes::resolved_classes;
+use crate::building::objects::resolved_objects;
+use crate::building::references::resolved_references;
+use crate::building::scopes::resolved_scopes;
+use crate::declarations::Declarations;
+use crate::faults::first_fault;
+use crate::names::Names;
+use crate::predicates::resolved_predicates;
+use rf_problem::Problem;
+use rf_syntax::Ast;
+use std::alloc::{AllocError, Global};
+
+// The problem of these names, where no rule is broken.
+fn problem_of(alloc: Global, names: &Names) -> Result<Problem, AllocError>
+    requires read { IsOfText names.now.declared.now }
+    requires sound { fault_of names.now.declared.now ≡ None }
+    ensures { IfOk result (λ p. IsResolved names.now.declared.now p) }
+{
+    let classes = resolved_classes(alloc, names)?;
+    let references = resolved_references(alloc, names)?;
+    let predicates = resolved_predicates(alloc, names)?;
+    let objects = resolved_objects(alloc, names, &classes)?;
+    let assertions = resolved_assertions(alloc, names)?;
+    let scopes = resolved_scopes(alloc, names)?;
+    match Problem::new(classes, references, predicates, objects, assertions, scopes) {
+        Some(problem) => Ok(problem),
+        None => unreachable!(),
+    }
+}
+
+// The problem of these declarations, or the first rule that is broken.
+fn resolve_declared(alloc: Global, declared: &Declarations) -> Result<Problem, NameError>
+    requires { IsOfText declared.now }
+    ensures sound { IfOk result (λ p. fault_of declared.now ≡ None) }
+    ensures ok { IfOk result (λ p. IsResolved declared.now p) }
+    ensures fault { IfErr result (λ e.
+        (e ≡ NameError.Memory) ⊎ (fault_of declared.now ≡ Some e)) }
+{
+    let names = Names::of(alloc, declared)?;
+    if let Some(fault) = first_fault(alloc, &names)? {
+        return Err(fault);
+    }
+    let problem = problem_of(alloc, &names)?;
+    Ok(problem)
+}
+
+/// The problem that a tree stands for: each list is that of its declarations in order, each number the
+/// place of what a name stands for.
+pub fn resolve(alloc: Global, ast: &Ast) -> Result<Problem, NameError>
+    requires { IsReadableTree ast.now }
+    ensures ok { IfOk result (λ p. Resolves ast.now p) }
+    ensures found { (p : Problem) → Resolves ast.now p
+        → MatchResult result (λ q. q ≡ p) (λ e. e ≡ NameError.Memory) }
+    ensures fault { IfErr result (λ e. e ≢ NameError.Memory → NameFault ast.now e) }
+    ensures stuck { (e : NameError) → NameFault ast.now e
+        → (result ≡ Err e) ⊎ (result ≡ Err NameError.Memory) }
+{
+    let declared = Declarations::of(alloc, ast)?;
+    resolve_declared(alloc, &declared)
+}

@@ -1,0 +1,116 @@
+//! The variables of a clause and their numbers.
+
+ghost use Rattle.std.specs.Prelude.{◌≡◌, ◌≤◌, IfOk, None, OnOk, Option, if◌then◌else◌, length, position};
+ghost use Rattle.rf_resolve.specs.Bodies.{is_variable_of, param_names, with_variable, with_variables};
+ghost use Rattle.rf_resolve.specs.LookUp.{is_blank, reads};
+ghost use Rattle.rf_resolve.specs.Resolved.{variable_number, variable_numbers};
+
+use rf_syntax::{Name, Param};
+use std::alloc::{AllocError, Global};
+use std::marker::Model;
+
+/// Whether a name is this text.
+pub fn reads(text: &str, name: &Name) -> bool
+    ensures { result ≡ reads text.now name.now }
+{
+    name.text.as_str() == text
+}
+
+/// Whether a name stands for a variable of its own each time.
+pub fn is_blank(name: &Name) -> bool
+    ensures { result ≡ is_blank name.now }
+{
+    reads("_", name)
+}
+
+fn place_among(names: &[&Name], text: &str) -> Option<usize>
+    ensures { result ≡ position (λ n. reads text.now n.now) names.now }
+{
+    names.iter().position(|name| reads(text, *name))
+}
+
+/// The variables of a clause that are known so far, each by its first name.
+#[derive(Drop)]
+pub struct Variables<'a> {
+    names: Vec<&'a Name>,
+}
+
+impl<'a> Model for Variables<'a> {
+    ghost use Rattle.std.specs.Prelude.{List, map};
+    ghost use Rattle.rf_syntax.specs.declared.name.Name.{Name};
+
+    ghost Value = { List Name };
+
+    ghost view = { λ v. map (λ n. n.now) v.names.items };
+}
+
+impl<'a> Variables<'a> {
+    /// The parameters.
+    pub fn of_params(alloc: Global, params: &'a [Param]) -> Result<Variables<'a>, AllocError>
+        ensures { IfOk result (λ v. v ≡ param_names params.now) }
+    {
+        let mut names = Vec::new(alloc);
+        for param in params {
+            names.push(&param.name)?;
+        }
+        Ok(Variables { names })
+    }
+
+    pub fn len(&self) -> u64
+        ensures { result ≡ length self.now }
+    {
+        self.names.len() as u64
+    }
+
+    // The first known variable of this name.
+    fn place_of(&self, text: &str) -> Option<usize>
+        ensures { result ≡ position (reads text.now) self.now }
+    {
+        place_among(self.names.as_slice(), text)
+    }
+
+    // The number of the known variable that a name stands for.
+    #[tactic(auto, using(crate::proofs::KnownVariables::found_steps))]
+    fn number_of(&self, name: &Name) -> Option<usize>
+        ensures { result ≡ (if is_variable_of self.now name.now
+            then position (reads name.now.text) self.now else None) }
+    {
+        if is_blank(name) {
+            None
+        } else {
+            self.place_of(name.text.as_str())
+        }
+    }
+
+    /// The number of the variable that a name stands for, which is known from then on.
+    #[tactic(auto, using(crate::proofs::KnownVariables::number_steps))]
+    pub fn number(&mut self, name: &'a Name) -> Result<u8, AllocError>
+        requires { length (with_variable self.old name.now) ≤ 8 }
+        ensures number { IfOk result (λ n. n ≡ variable_number self.old name.now) }
+        ensures known { OnOk result (self.new ≡ with_variable self.old name.now) }
+    {
+        match self.number_of(name) {
+            Some(number) => Ok(number as u8),
+            None => {
+                let number = self.names.len() as u8;
+                self.names.push(name)?;
+                Ok(number)
+            }
+        }
+    }
+
+    /// The numbers of the variables that names stand for, which are known from then on.
+    #[tactic(auto, using(crate::proofs::NumberingLemmas::numbering_steps))]
+    pub fn numbers(&mut self, alloc: Global, names: &'a [Name]) -> Result<Vec<u8>, AllocError>
+        requires { length (with_variables self.old names.now) ≤ 8 }
+        ensures numbers { IfOk result (λ v. v.items ≡ variable_numbers self.old names.now) }
+        ensures known { OnOk result (self.new ≡ with_variables self.old names.now) }
+    {
+        let mut numbers = Vec::new(alloc);
+        for name in names {
+            let number = self.number(name)?;
+            numbers.push(number)?;
+        }
+        Ok(numbers)
+    }
+}
