@@ -4,7 +4,7 @@ use Rattle.std.specs.List.{list_any}
 use Rattle.std.specs.Str.{bytes_eq}
 use Rattle.std.proofs.lemmas.Bool.{or_cases}
 use Rattle.std.proofs.lemmas.Slice.Eq.{bytes_eq-Decides}
-use Rattle.rf_text.specs.Name.{is_keyword}
+use Rattle.rf_text.specs.Keyword.{is_keyword}
 use Rattle.rf_lexer.specs.Spelling.{keyword_spelling}
 use Rattle.rf_lexer.specs.declared.keyword.Keyword.{Keyword}
 use Rattle.rf_lexer.specs.declared.keyword.Keyword.TheVariants.{Abstract, Atom, Class, Container, Contains, Declare, Default, Enum, Error, Extends, False, Multi, Opposite, Pred, Refers, Scope, True, Unknown}

@@ -1,6 +1,6 @@
 -- What holds of keywords.
 use Rattle.std.specs.Prelude.{◌≡◌, ◌↔◌, ℕ, IsTrue, List}
-use Rattle.rf_text.specs.Name.{is_keyword}
+use Rattle.rf_text.specs.Keyword.{is_keyword}
 use Rattle.rf_lexer.specs.Spelling.{keyword_spelling}
 use Rattle.rf_lexer.specs.declared.keyword.Keyword.{Keyword}
 

@@ -2,5 +2,4 @@ pub mod Decimals
 pub mod FrontLemmas
 pub mod IdentifierLemmas
 pub mod LineLemmas
-pub mod NameLemmas
 pub mod WrittenLemmas

@@ -1,6 +1,7 @@
 -- Names as they are written: what tells bare ones from quoted ones, and where each ends.
 use Rattle.std.proofs.Common.{◌≡◌, ◌≢◌, ◌∙◌, ℕ, ◌<◌, ◌≤◌, Bool, true, false, not, ◌&&◌, List, [], ◌∷◌, ◌++◌, length, get_or, refl, sym, ap, All, inl, inr, subst, arith, append_assoc, length-append, take, drop, ◌+◌}
-use Rattle.std.specs.Prelude.{◌==◌, if◌then◌else◌}
+use Rattle.std.specs.Prelude.{◌==◌, ◌||◌, if◌then◌else◌}
+use Rattle.std.specs.Char.{is_ascii_alphanumeric}
 use Rattle.std.specs.Str.{IsUtf8, chars, is_utf8}
 use Rattle.std.proofs.lemmas.Bool.{and_parts, cases_Bool, cases_lt, not-false, ne_eqb}
 use Rattle.std.proofs.lemmas.Bool.Decides.{nat_tests}
@@ -10,10 +11,14 @@ use Rattle.std.proofs.lemmas.Str.{IsUtf8-from_is_utf8, is_utf8-from_IsUtf8, NoCh
 use Rattle.unicode_ident.specs.Ident.{is_xid_continue}
 use Rattle.unicode_ident.proofs.IdentLemmas.{is_xid_continue-ascii}
 use Rattle.rf_text.specs.Identifier.{is_identifier}
-use Rattle.rf_text.specs.Name.{is_keyword, is_name_byte}
+use Rattle.rf_text.specs.Keyword.{is_keyword}
 use Rattle.rf_text.specs.Written.{CanBeQuoted, EndsName, IsWritten, ends_name, is_bare, written_name}
 use Rattle.rf_text.proofs.FrontLemmas.{BeginsWith, EachFails, EachFails-head, one_front}
 use Rattle.rf_text.proofs.IdentifierLemmas.{identifier_continues, none_fails}
+
+-- a letter or a digit of ASCII or an underscore
+abbrev is_name_byte : ℕ → Bool
+is_name_byte b = is_ascii_alphanumeric b || (b == 95)
 
 abbrev pub quoted : List ℕ → List ℕ
 quoted name = 39 ∷ (name ++ 39 ∷ [])

@@ -1,20 +1,11 @@
 -- What holds of names and of how they are written.
 use Rattle.std.specs.Prelude.{◌≡◌, ◌↔◌, ℕ, IsTrue, List, ◌++◌}
 use Rattle.rf_text.specs.Identifier.{IsIdentifier, is_identifier}
-use Rattle.rf_text.specs.Name.{IsName}
 use Rattle.rf_text.specs.Written.{CanBeQuoted, EndsName, written_name}
 
 -- the test for identifiers tells them
 abbrev pub IdentifiersAreTold : Type 0
 IdentifiersAreTold = (cs : List ℕ) → IsTrue (is_identifier cs) ↔ IsIdentifier cs
-
--- a plain name is written as it is
-abbrev pub PlainNamesAreBare : Type 0
-PlainNamesAreBare = (name : List ℕ) → IsName name → written_name name ≡ name
-
--- a plain name may stand between quotes too
-abbrev pub PlainNamesCanBeQuoted : Type 0
-PlainNamesCanBeQuoted = (name : List ℕ) → IsName name → CanBeQuoted name
 
 -- names that differ are written in different ways
 abbrev pub WrittenNamesDiffer : Type 0

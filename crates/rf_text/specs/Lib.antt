@@ -1,6 +1,6 @@
 pub mod Identifier
 pub mod Laws
 pub mod Line
-pub mod Name
+pub mod Keyword
 pub mod Number
 pub mod Written

@@ -2,7 +2,7 @@
 use Rattle.std.specs.Prelude.{◌≡◌, ◌≢◌, ℕ, ◌≤◌, Bool, not, ◌||◌, ◌&&◌, ◌==◌, IsTrue, List, [], ◌∷◌, ◌++◌, length, All, if◌then◌else◌}
 use Rattle.std.specs.Str.{chars, is_utf8}
 use Rattle.rf_text.specs.Identifier.{is_identifier}
-use Rattle.rf_text.specs.Name.{is_keyword}
+use Rattle.rf_text.specs.Keyword.{is_keyword}
 
 -- a name that may stand between quotes
 pub record CanBeQuoted (name : List ℕ) : Type 0 where

@@ -27,34 +27,6 @@ fn numbers_are_decimal_and_plain(rt: HostRuntime) -> Result<(), Fail> {
 }
 
 #[test]
-fn names_are_bare_words(rt: HostRuntime) -> Result<(), Fail> {
-    let alloc = rt.alloc();
-    for (text, want) in [
-        ("A", true),
-        ("_", true),
-        ("a_1", true),
-        ("classes", true),
-        ("Class", true),
-        ("", false),
-        ("1a", false),
-        ("a-b", false),
-        ("a b", false),
-        ("\u{e9}t\u{e9}", false),
-        ("class", false),
-        ("unknown", false),
-        ("node", false),
-        ("equals", false),
-    ] {
-        assert_eq!(rt; is_name(text.as_bytes()), want, "{text}");
-    }
-    let longest = vec![in alloc; b'a'; 255]?;
-    assert!(rt; is_name(longest.as_slice()));
-    let longer = vec![in alloc; b'a'; 256]?;
-    assert!(rt; !is_name(longer.as_slice()));
-    Ok(())
-}
-
-#[test]
 fn names_are_written(rt: HostRuntime) -> Result<(), Fail> {
     let alloc = rt.alloc();
     for (name, want) in [

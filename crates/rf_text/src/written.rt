@@ -4,7 +4,7 @@ ghost use Rattle.rf_text.specs.Written.{CanBeQuoted, EndsName, IsWritten, is_bar
 
 use crate::Text;
 use crate::identifier::is_identifier;
-use crate::name::is_keyword;
+use crate::keyword::is_keyword;
 use std::alloc::{AllocError, Global};
 
 /// Whether a name may stand between single quotes: it has neither a single quote nor a line feed nor

@@ -1,5 +1,5 @@
 use Rattle.std.proofs.Common.{◌&&◌, not, ap, sym, refl, ◌∙◌}
-use Rattle.rf_text.specs.Name.{is_keyword}
+use Rattle.rf_text.specs.Keyword.{is_keyword}
 use Rattle.rf_text.proofs.WrittenLemmas.{is_bare-text}
 use Rattle.rf_text.proofs.written.is_bare.Goals as goal
 
