@@ -23,12 +23,13 @@ use Rattle.rf_syntax.specs.declared.name.SymbolName.{SymbolName}
 use Rattle.rf_syntax.specs.declared.statement.Ast.{Ast}
 use Rattle.rf_syntax.specs.declared.statement.Statement.{Statement}
 use Rattle.rf_syntax.specs.declared.statement.Statement.TheVariants.{Assert, Class as ClassOf, Declare, Multi, Predicate as PredicateOf, Scope}
-use Rattle.rf_resolve.specs.declared.error.LimitKind.TheVariants.{Assertions}
-use Rattle.rf_resolve.specs.Declarations.{AssertDecl, ClassDecl, Declared, asserted_atom, asserted_truth, assertions_in, declared_in, mentions_in, object_alone, object_in}
+use Rattle.rf_limits.specs.declared.kind.LimitKind.TheVariants.{Assertions}
+use Rattle.rf_names.specs.Declarations.{AssertDecl, ClassDecl, Declared, asserted_atom, asserted_truth, assertions_in, declared_in, mentions_in, object_alone, object_in}
 use Rattle.rf_resolve.specs.Fault.{Passes}
-use Rattle.rf_resolve.specs.LookUp.{assertion_symbols, can_be_closed, class_decl_at, class_named, first_of_each, is_text_of, literal_symbols, named_objects, no_class_decl, no_predicate_decl, object_named, own_symbols, parameters_of, reads, sense_of, symbols_named, symbols_or_members}
-use Rattle.rf_resolve.specs.Places.{ambiguous_symbol, assertion_arity, is_abstract_class, is_ambiguous, last_place, literal_arity, place_if, places_in_literals, unknown_arg, unknown_assertion, unknown_class, unknown_object, unknown_symbol}
-use Rattle.rf_resolve.specs.Resolved.{object_or_new, resolved_arg, resolved_assertion, resolved_class, resolved_object, resolved_predicate, resolved_reference, the_number, the_symbol}
+use Rattle.rf_names.specs.LookUp.{assertion_symbols, can_be_closed, class_decl_at, class_named, first_of_each, is_text_of, literal_symbols, named_objects, no_class_decl, no_predicate_decl, object_named, own_symbols, parameters_of, reads, sense_of, symbols_named, symbols_or_members, the_number, the_symbol}
+use Rattle.rf_name_rules.specs.Places.{ambiguous_symbol, assertion_arity, is_abstract_class, is_ambiguous, last_place, literal_arity, unknown_arg, unknown_assertion, unknown_class, unknown_object, unknown_symbol}
+use Rattle.rf_names.specs.LeastPlace.{place_if, places_in_literals}
+use Rattle.rf_resolve.specs.Resolved.{object_or_new, resolved_arg, resolved_assertion, resolved_class, resolved_object, resolved_predicate, resolved_reference}
 use Rattle.rf_resolve.proofs.ClassesFit.{class_count}
 use Rattle.rf_resolve.proofs.ClearPlaces.{few-from_first_past, nil-each, nil-parts, nil-right, place_if-nil}
 use Rattle.rf_resolve.proofs.NumberFacts.{class_below, some_number}

@@ -1,16 +1,16 @@
 -- The literals of a clause, one more at a time.
 use Rattle.std.proofs.Common.{◌≡◌, ◌<◌, ◌≤◌, ◌+◌, ℕ, suc, List, [], ◌∷◌, ◌++◌, length, map, take, drop, get_or, append_assoc, arith, refl, sym, ap, ◌∙◌}
-use Rattle.std.specs.List.{flat_map}
 use Rattle.std.proofs.lemmas.List.{append-nil, length-take-le, take-append-drop, take_more}
 use Rattle.std.proofs.lemmas.List.Concat.{flat_map-append}
 use Rattle.rf_problem.specs.declared.predicate.Literal.{Literal}
 use Rattle.rf_syntax.specs.declared.name.Name.{Name}
 use Rattle.rf_syntax.specs.declared.predicate.BodyLiteral.{BodyLiteral}
 use Rattle.rf_syntax.specs.declared.predicate.Param.{Param}
-use Rattle.rf_resolve.specs.Bodies.{clause_names, literal_names, with_variables}
-use Rattle.rf_resolve.specs.Declarations.{Declared}
+use Rattle.rf_names.specs.Bodies.{clause_names, literal_names, with_variables}
+use Rattle.rf_names.specs.Declarations.{Declared}
 use Rattle.rf_resolve.specs.Resolved.{class_literal, class_literals, resolved_literal, resolved_literals}
-use Rattle.rf_resolve.proofs.VariableLemmas.{with_variables-append, with_variables-longer}
+use Rattle.rf_names.proofs.MapLemmas.{map_one_more}
+use Rattle.rf_names.proofs.VariableLemmas.{with_variables-append, with_variables-longer}
 
 -- the variables behind one literal more
 names-snoc : (known : List Name) (ls : List BodyLiteral) (l : BodyLiteral) →
@@ -33,17 +33,6 @@ resolved-append d known (l ∷ ls) ms =
     ++ resolved_literals d vs ms)
     (sym (with_variables-append known (literal_names l) (clause_names ls))))
 
-map-snoc : {X Y : Type 0} (f : X → Y) (xs : List X) (x : X) → map f (xs ++ x ∷ []) ≡ map f xs
-    ++ f x ∷ []
-map-snoc f [] x = refl
-map-snoc f (y ∷ xs) x = ap (λ ys. f y ∷ ys) (map-snoc f xs x)
-
-pub map_more : {X Y : Type 0} (f : X → Y) (xs : List X) (i : ℕ) (x : X) → i < length xs →
-    x ≡ get_or xs i x → map f (take (i + 1) xs) ≡ map f (take i xs) ++ f x ∷ []
-map_more f xs i x below is =
-    ap (map f) (take_more xs i x below) ∙ map-snoc f (take i xs) (get_or xs i x)
-    ∙ ap (λ y. map f (take i xs) ++ f y ∷ []) (sym is)
-
 -- a loop's step over the literals, each of which is made of an item
 pub clause_names_more :
     {X : Type 0} (f : X → BodyLiteral) (known : List Name) (xs : List X) (i : ℕ) (x : X) →
@@ -52,7 +41,7 @@ pub clause_names_more :
     ≡ with_variables (with_variables known (clause_names (map f (take i xs))))
     (literal_names (f x))
 clause_names_more f known xs i x below is =
-    ap (λ ls. with_variables known (clause_names ls)) (map_more f xs i x below is)
+    ap (λ ls. with_variables known (clause_names ls)) (map_one_more f xs i x below is)
     ∙ names-snoc known (map f (take i xs)) (f x)
 
 pub resolved_literals_more :
@@ -62,7 +51,7 @@ pub resolved_literals_more :
     resolved_literals d known (map f (take i xs))
     ++ resolved_literal d (with_variables known (clause_names (map f (take i xs)))) (f x) ∷ []
 resolved_literals_more f d known xs i x below is =
-    ap (resolved_literals d known) (map_more f xs i x below is)
+    ap (resolved_literals d known) (map_one_more f xs i x below is)
     ∙ resolved-append d known (map f (take i xs)) (f x ∷ [])
 
 -- behind some of the literals there are no more variables than behind all

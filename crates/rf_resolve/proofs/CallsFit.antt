@@ -18,13 +18,13 @@ use Rattle.rf_syntax.specs.declared.name.Name.{Name}
 use Rattle.rf_syntax.specs.declared.predicate.BodyLiteral.{BodyLiteral}
 use Rattle.rf_syntax.specs.declared.predicate.BodyLiteral.TheVariants.{Call, Same, Differ}
 use Rattle.rf_syntax.specs.declared.predicate.Param.{Param}
-use Rattle.rf_resolve.specs.Bodies.{called_by, calls_directly, is_called_from, is_this, leads_to, literal_names, param_names, predicate_of, with_variables}
-use Rattle.rf_resolve.specs.Declarations.{Declared, PredicateDecl}
-use Rattle.rf_resolve.specs.LookUp.{literal_symbols, no_predicate_decl, predicate_decl_at, sense_of}
-use Rattle.rf_resolve.specs.Places.{leads_back_to, recursive_literal, recursive_places}
-use Rattle.rf_resolve.specs.Resolved.{all_literals, class_literal, class_literals, resolved_clause, resolved_literal, resolved_literals, resolved_predicate, the_symbol}
-use Rattle.rf_resolve.specs.declared.sense.Sense.{Sense}
-use Rattle.rf_resolve.specs.declared.sense.Sense.TheVariants.{Nothing, One, Several}
+use Rattle.rf_names.specs.Bodies.{called_by, calls_directly, is_called_from, leads_to, literal_names, param_names, predicate_of, with_variables}
+use Rattle.rf_names.specs.LookUp.{is_number, literal_symbols, no_predicate_decl, predicate_decl_at, sense_of, the_symbol}
+use Rattle.rf_names.specs.Declarations.{Declared, PredicateDecl}
+use Rattle.rf_clause_rules.specs.ClausePlaces.{leads_back_to, recursive_literal, recursive_places}
+use Rattle.rf_resolve.specs.Resolved.{all_literals, class_literal, class_literals, resolved_clause, resolved_literal, resolved_literals, resolved_predicate}
+use Rattle.rf_names.specs.declared.sense.Sense.{Sense}
+use Rattle.rf_names.specs.declared.sense.Sense.TheVariants.{Nothing, One, Several}
 use Rattle.rf_resolve.proofs.ClearPlaces.{place_if-nil, places_in_literals-each}
 
 -- some item of a list passes where the item that it was made of does
@@ -38,7 +38,7 @@ any-map p f (x ∷ xs) h = elim (or_cases (p (f x)) (list_any p (map f xs)) h) [
 -- a symbol that is a predicate is what the name stands for
 called-from_symbol :
     (q : ℕ) (sense : Sense) (negated closure : Bool) (args : List ℕ) → calls_predicate q (Calls negated closure (the_symbol sense) args) ≡ true →
-    is_this q (predicate_of sense) ≡ true
+    is_number q (predicate_of sense) ≡ true
 called-from_symbol q Nothing negated closure args h = absurd (true≢false (sym h))
 called-from_symbol q (One (Class c)) negated closure args h = absurd (true≢false (sym h))
 called-from_symbol q (One (Reference r)) negated closure args h = absurd (true≢false (sym h))
@@ -61,7 +61,7 @@ module _ (d : Declared) where
   pub predicate_at-made : (q : ℕ) → predicate_at predicates_made q ≡ resolved_predicate d (predicate_decl_at d q)
   predicate_at-made q = made-at d.predicates q
 
-  literal_calls : (q : ℕ) (known : List Name) (l : BodyLiteral) → calls_predicate q (resolved_literal d known l) ≡ true → is_this q (called_by d l) ≡ true
+  literal_calls : (q : ℕ) (known : List Name) (l : BodyLiteral) → calls_predicate q (resolved_literal d known l) ≡ true → is_number q (called_by d l) ≡ true
   literal_calls q known (Call negated symbol closure args) h =
       called-from_symbol q (sense_of (literal_symbols d symbol)) negated closure _ h
   literal_calls q known (Same a b) h = absurd (true≢false (sym h))
@@ -69,13 +69,13 @@ module _ (d : Declared) where
 
   literals_call :
       (q : ℕ) (known : List Name) (ls : List BodyLiteral) → list_any (calls_predicate q) (resolved_literals d known ls) ≡ true →
-      list_any (λ l. is_this q (called_by d l)) ls ≡ true
+      list_any (λ l. is_number q (called_by d l)) ls ≡ true
   literals_call q known [] h = h
   literals_call q known (l ∷ ls) h =
       let behind : List Name = with_variables known (literal_names l) in
       elim (or_cases (calls_predicate q (resolved_literal d known l)) (list_any (calls_predicate q) (resolved_literals d behind ls)) h) [
-        | inl here ↦ or_left (is_this q (called_by d l)) (list_any (λ m. is_this q (called_by d m)) ls) (literal_calls q known l here)
-        | inr later ↦ or_right (is_this q (called_by d l)) (list_any (λ m. is_this q (called_by d m)) ls)
+        | inl here ↦ or_left (is_number q (called_by d l)) (list_any (λ m. is_number q (called_by d m)) ls) (literal_calls q known l here)
+        | inr later ↦ or_right (is_number q (called_by d l)) (list_any (λ m. is_number q (called_by d m)) ls)
             (literals_call q behind ls later)
       ]
 
@@ -95,7 +95,7 @@ module _ (d : Declared) where
 
   clause_calls :
       (q : ℕ) (params : List Param) (clause : List BodyLiteral) → list_any (calls_predicate q) (all_literals d params clause) ≡ true →
-      list_any (λ l. is_this q (called_by d l)) clause ≡ true
+      list_any (λ l. is_number q (called_by d l)) clause ≡ true
   clause_calls q params clause h =
       elim (or_cases (list_any (calls_predicate q) (resolved_literals d (param_names params) clause))
       (list_any (calls_predicate q) (class_literals d 0 params))
@@ -111,15 +111,15 @@ module _ (d : Declared) where
       let made : list_any (λ c. list_any (calls_predicate q) c.literals) (map (resolved_clause d decl.params) decl.clauses) ≡ true =
       ap (λ r. list_any (λ c. list_any (calls_predicate q) c.literals) r.clauses) (sym (predicate_at-made p)) ∙ h in
       list_any-more_pass (λ clause. list_any (calls_predicate q) (all_literals d decl.params clause))
-      (λ clause. list_any (λ l. is_this q (called_by d l)) clause) decl.clauses (λ clause. clause_calls q decl.params clause)
+      (λ clause. list_any (λ l. is_number q (called_by d l)) clause) decl.clauses (λ clause. clause_calls q decl.params clause)
       (any-map (λ c. list_any (calls_predicate q) c.literals) (resolved_clause d decl.params) decl.clauses made)
 
   -- a literal from which no call leads back
-  leads_back-from_called : (p q : ℕ) (o : Option ℕ) → is_this q o ≡ true → leads_to d q p ≡ true → leads_back_to d p o ≡ true
+  leads_back-from_called : (p q : ℕ) (o : Option ℕ) → is_number q o ≡ true → leads_to d q p ≡ true → leads_back_to d p o ≡ true
   leads_back-from_called p q None here leads = absurd (true≢false (sym here))
   leads_back-from_called p q (Some n) here leads = subst (λ m. leads_to d m p ≡ true) (sym (eqb-true n q here)) leads
 
-  literal_leads : (p q : ℕ) (l : BodyLiteral) → recursive_literal d p l ≡ [] → is_this q (called_by d l) ≡ true → leads_to d q p ≡ true → ⊥
+  literal_leads : (p q : ℕ) (l : BodyLiteral) → recursive_literal d p l ≡ [] → is_number q (called_by d l) ≡ true → leads_to d q p ≡ true → ⊥
   literal_leads p q (Call negated symbol closure args) none here leads =
       let called : Option ℕ = called_by d (Call negated symbol closure args) in
       both_ways (leads_back_to d p called) (place_if-nil (leads_back_to d p called) symbol.name.at none)
@@ -129,8 +129,8 @@ module _ (d : Declared) where
 
   call_leads : recursive_places d ≡ [] → (p q : ℕ) → p < length d.predicates → calls_directly d p q ≡ true → leads_to d q p ≡ true → ⊥
   call_leads none p q l h leads =
-      let clause = Any-from_list_any (λ c. list_any (λ l. is_this q (called_by d l)) c) (predicate_decl_at d p).clauses h in
-      let literal = Any-from_list_any (λ l. is_this q (called_by d l)) clause.1 clause.4 in
+      let clause = Any-from_list_any (λ c. list_any (λ l. is_number q (called_by d l)) c) (predicate_decl_at d p).clauses h in
+      let literal = Any-from_list_any (λ l. is_number q (called_by d l)) clause.1 clause.4 in
       let each = places_in_literals-each (recursive_literal d) d.predicates none p no_predicate_decl l clause.0 clause.1 clause.2 in
       let in_clause : All (λ l. recursive_literal d p l ≡ []) clause.1 =
       subst (λ c. All (λ l. recursive_literal d p l ≡ []) c) clause.3 each in

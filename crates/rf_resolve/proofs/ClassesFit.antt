@@ -15,13 +15,14 @@ use Rattle.rf_syntax.specs.declared.name.Name.{Name}
 use Rattle.rf_syntax.specs.declared.statement.Ast.{Ast}
 use Rattle.rf_syntax.specs.declared.statement.Statement.{Statement}
 use Rattle.rf_syntax.specs.declared.statement.Statement.TheVariants.{Assert, Class as ClassOf, Declare, Multi, Predicate as PredicateOf, Scope}
-use Rattle.rf_resolve.specs.declared.error.LimitKind.TheVariants.{Classes}
-use Rattle.rf_resolve.specs.Declarations.{ClassDecl, Declared, classes_in, declared_in, names_in}
+use Rattle.rf_limits.specs.declared.kind.LimitKind.TheVariants.{Classes}
+use Rattle.rf_names.specs.Declarations.{ClassDecl, Declared, classes_in, declared_in, names_in}
 use Rattle.rf_resolve.specs.Fault.{Passes}
-use Rattle.rf_resolve.specs.LookUp.{class_decl_at, class_named, extends_directly, extends_somehow, is_number, no_class_decl}
-use Rattle.rf_resolve.specs.Places.{cycles_from, kept_names, place_if}
+use Rattle.rf_names.specs.LookUp.{class_decl_at, class_named, extends_directly, extends_somehow, is_number, no_class_decl, the_number}
+use Rattle.rf_name_rules.specs.Places.{cycles_from, kept_names}
+use Rattle.rf_names.specs.LeastPlace.{place_if}
 use Rattle.rf_resolve.specs.Readable.{IsReadableDeclared}
-use Rattle.rf_resolve.specs.Resolved.{resolved_class, the_number}
+use Rattle.rf_resolve.specs.Resolved.{resolved_class}
 use Rattle.rf_resolve.proofs.ClearPlaces.{nil-parts, few-from_first_past, place_if-nil}
 use Rattle.rf_resolve.proofs.FreshNames.{AreFresh, AreFresh-apart, AreFresh-behind, AreFresh-from_repeated}
 use Rattle.rf_resolve.proofs.NumberFacts.{class_below, some_number}

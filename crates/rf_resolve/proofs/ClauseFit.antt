@@ -13,14 +13,14 @@ use Rattle.rf_problem.specs.declared.predicate.Literal.TheVariants.{Call as Call
 use Rattle.rf_problem.specs.declared.predicate.Predicate.{Predicate}
 use Rattle.rf_syntax.specs.declared.predicate.BodyLiteral.{BodyLiteral}
 use Rattle.rf_syntax.specs.declared.predicate.Param.{Param}
-use Rattle.rf_resolve.specs.Bodies.{clause_names, clause_variables, param_names}
-use Rattle.rf_resolve.specs.Declarations.{Declared}
-use Rattle.rf_resolve.specs.Places.{unknown_param_class}
+use Rattle.rf_names.specs.Bodies.{clause_names, clause_variables, param_names}
+use Rattle.rf_names.specs.Declarations.{Declared}
+use Rattle.rf_name_rules.specs.Places.{unknown_param_class}
 use Rattle.rf_resolve.specs.Resolved.{all_literals, class_literals, entry_of, mentions, resolved_clause, resolved_literals}
 use Rattle.rf_resolve.proofs.CallsFit.{predicates_made}
 use Rattle.rf_resolve.proofs.LiteralsFit.{IsSound, all_literals-within, fits_within, length-class_literals, length-resolved_literals}
 use Rattle.rf_resolve.proofs.NegationLemmas.{is_negation, negation_around-fits}
-use Rattle.rf_resolve.proofs.VariableLemmas.{with_variables-longer}
+use Rattle.rf_names.proofs.VariableLemmas.{with_variables-longer}
 
 -- what is so of each number of a list is so of all
 list_all-from_members : (p : ℕ → Bool) (ns : List ℕ) → ((v : ℕ) → list_any (λ n. n == v) ns ≡ true → p v ≡ true) → list_all p ns ≡ true

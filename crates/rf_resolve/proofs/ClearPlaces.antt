@@ -5,9 +5,9 @@ use Rattle.std.proofs.lemmas.List.Elements.{All-cons, All-nil}
 use Rattle.rf_syntax.specs.declared.name.Name.{Name}
 use Rattle.rf_syntax.specs.declared.predicate.BodyLiteral.{BodyLiteral}
 use Rattle.rf_syntax.specs.declared.predicate.Param.{Param}
-use Rattle.rf_resolve.specs.Declarations.{PredicateDecl}
-use Rattle.rf_resolve.specs.Limits.{first_past}
-use Rattle.rf_resolve.specs.Places.{place_if, places_in_clauses, places_in_literals}
+use Rattle.rf_names.specs.Declarations.{PredicateDecl}
+use Rattle.rf_limits.specs.Limits.{first_past}
+use Rattle.rf_names.specs.LeastPlace.{place_if, places_in_clauses, places_in_literals}
 
 -- a list with a first item isn't empty
 pub cons_not_nil : {X : Type 0} (x : X) (xs : List X) → x ∷ xs ≡ [] → ⊥

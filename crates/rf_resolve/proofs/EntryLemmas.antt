@@ -1,10 +1,10 @@
 -- The one place at which an item passes, where there is one alone.
-use Rattle.std.proofs.Common.{◌≡◌, ◌≢◌, ◌<◌, ◌+◌, ◌∙◌, ℕ, zero, suc, Bool, true, false, List, [], ◌∷◌, ◌++◌, length, map, get_or, cond, Option, None, Some, arith, refl, sym, ap, inl, inr}
+use Rattle.std.proofs.Common.{◌≡◌, ◌≢◌, ◌<◌, ◌+◌, ◌∙◌, ℕ, zero, suc, Bool, true, List, [], ◌∷◌, ◌++◌, length, map, get_or, cond, None, Some, arith, refl, sym, ap, inl, inr}
 use Rattle.std.specs.Prelude.{count_by, nat_lt, position}
 use Rattle.std.specs.List.{position_or_len, range_with_len}
 use Rattle.std.proofs.lemmas.Bool.{cases_Bool, lt-ltb}
 use Rattle.std.proofs.lemmas.List.Sums.{sum_by-cons}
-use Rattle.rf_resolve.specs.LookUp.{numbers_where}
+use Rattle.rf_names.specs.LookUp.{numbers_where}
 use Rattle.rf_resolve.specs.Resolved.{only_one}
 
 counted : {X : Type 0} (p : X → Bool) (x : X) (xs : List X) → count_by p (x ∷ xs)

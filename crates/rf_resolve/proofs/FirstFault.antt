@@ -1,10 +1,12 @@
 -- The rules group by group, and the first that is broken.
 use Rattle.std.proofs.Common.{◌≡◌, ◌∙◌, List, [], ◌∷◌, ◌++◌, Option, None, Some, Result, Ok, Err, IfOk, refl, sym, ap}
 use Rattle.std.specs.Option.{option_map, option_or}
-use Rattle.rf_resolve.specs.Declarations.{Declared}
-use Rattle.rf_resolve.specs.Fault.{earliest, fault_of, first_of, least_of, limit_error}
-use Rattle.rf_resolve.specs.Limits.{limit_kinds}
-use Rattle.rf_resolve.specs.Places.{ambiguous_places, arity_places, bad_container_places, bad_opposite_places, bad_range_places, cycle_places, equals_two_places, loose_places, recursive_places, twice_places, unknown_places}
+use Rattle.rf_names.specs.Declarations.{Declared}
+use Rattle.rf_limits.specs.Limits.{earliest, limit_kinds}
+use Rattle.rf_resolve.specs.Fault.{fault_of, first_of, limit_error}
+use Rattle.rf_names.specs.LeastPlace.{least_of}
+use Rattle.rf_name_rules.specs.Places.{ambiguous_places, arity_places, bad_container_places, bad_opposite_places, bad_range_places, cycle_places, equals_two_places, twice_places, unknown_places}
+use Rattle.rf_clause_rules.specs.ClausePlaces.{loose_places, recursive_places}
 use Rattle.rf_resolve.specs.declared.error.NameError.{NameError}
 use Rattle.rf_resolve.specs.declared.error.NameError.TheVariants.{Ambiguous, Arity, BadContainer, BadOpposite, BadRange, ClassCycle, EqualsTwo, LooseVariable, Recursive, Twice, Unknown}
 

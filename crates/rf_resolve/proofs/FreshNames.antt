@@ -5,8 +5,9 @@ use Rattle.std.proofs.lemmas.Bool.{both_ways, cases_Bool, or_from, or_left, or_p
 use Rattle.std.proofs.lemmas.List.Elements.{All-cons, All-nil}
 use Rattle.std.proofs.lemmas.Slice.Eq.{bytes_eq-Decides}
 use Rattle.rf_syntax.specs.declared.name.Name.{Name}
-use Rattle.rf_resolve.specs.LookUp.{first_of_each, is_text_of}
-use Rattle.rf_resolve.specs.Places.{place_if, repeated}
+use Rattle.rf_names.specs.LookUp.{first_of_each, is_text_of}
+use Rattle.rf_names.specs.LeastPlace.{place_if}
+use Rattle.rf_name_rules.specs.Places.{repeated}
 use Rattle.rf_resolve.proofs.ClearPlaces.{nil-parts, place_if-nil}
 use Rattle.rf_resolve.proofs.PairFacts.{AllPairs-cons, AllPairs-nil}
 

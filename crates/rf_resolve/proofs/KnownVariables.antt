@@ -1,6 +1,6 @@
 -- Variables that are known and variables that are new.
-use Rattle.std.proofs.Common.{◌≡◌, ◌<◌, ◌+◌, ◌∙◌, ℕ, suc, Bool, true, false, List, [], ◌∷◌, ◌++◌, length, map, Option, None, Some, arith, refl, sym, ap, inl, inr, true≢false}
-use Rattle.std.specs.Prelude.{◌&&◌, if◌then◌else◌, nat_lt, not, position}
+use Rattle.std.proofs.Common.{◌≡◌, ◌<◌, ◌+◌, ℕ, Bool, true, false, List, [], ◌∷◌, ◌++◌, length, map, Option, None, Some, refl, ap, inl, inr}
+use Rattle.std.specs.Prelude.{if◌then◌else◌, nat_lt, not, position}
 use Rattle.std.specs.List.{list_any, position_or_len}
 use Rattle.std.proofs.lemmas.Bool.{and_parts, both_ways, cases_Bool, lt-ltb}
 use Rattle.std.proofs.lemmas.Grind.{common_steps}
@@ -8,10 +8,9 @@ use Rattle.std.proofs.lemmas.List.{length-map}
 use Rattle.std.proofs.lemmas.List.Folds.{list_any_at}
 use Rattle.std.proofs.lemmas.List.Quantifiers.{position-Some}
 use Rattle.rf_syntax.specs.declared.name.Name.{Name}
-use Rattle.rf_resolve.specs.Bodies.{is_variable_of, with_variable}
-use Rattle.rf_resolve.specs.LookUp.{is_blank, reads}
-use Rattle.rf_resolve.specs.Resolved.{variable_number}
-use Rattle.rf_resolve.proofs.VariableLemmas.{position_or_len-within, variable_number-below}
+use Rattle.rf_names.specs.Bodies.{is_variable_of, variable_number, with_variable}
+use Rattle.rf_names.specs.LookUp.{is_blank, reads}
+use Rattle.rf_names.proofs.VariableLemmas.{position_or_len-within, variable_number-below}
 
 position_or_len-map : {X Y : Type 0} (p : Y → Bool) (f : X → Y) (xs : List X) →
     position_or_len p (map f xs) ≡ position_or_len (λ x. p (f x)) xs

@@ -18,15 +18,15 @@ use Rattle.rf_syntax.specs.declared.name.SymbolName.{SymbolName}
 use Rattle.rf_syntax.specs.declared.predicate.BodyLiteral.{BodyLiteral}
 use Rattle.rf_syntax.specs.declared.predicate.BodyLiteral.TheVariants.{Call, Same, Differ}
 use Rattle.rf_syntax.specs.declared.predicate.Param.{Param}
-use Rattle.rf_resolve.specs.Bodies.{clause_names, literal_names, with_variable, with_variables}
-use Rattle.rf_resolve.specs.Declarations.{Declared}
-use Rattle.rf_resolve.specs.LookUp.{can_be_closed, class_named, literal_symbols, parameters_of, reads, sense_of}
-use Rattle.rf_resolve.specs.Places.{ambiguous_literal, literal_arity, unknown_literal, unknown_param_class}
-use Rattle.rf_resolve.specs.Resolved.{class_literal, class_literals, resolved_literal, resolved_literals, the_number, the_symbol, variable_number, variable_numbers}
+use Rattle.rf_names.specs.Bodies.{clause_names, literal_names, variable_number, variable_numbers, with_variable, with_variables}
+use Rattle.rf_names.specs.Declarations.{Declared}
+use Rattle.rf_names.specs.LookUp.{can_be_closed, class_named, literal_symbols, parameters_of, reads, sense_of, the_number, the_symbol}
+use Rattle.rf_name_rules.specs.Places.{ambiguous_literal, literal_arity, unknown_literal, unknown_param_class}
+use Rattle.rf_resolve.specs.Resolved.{class_literal, class_literals, resolved_literal, resolved_literals}
 use Rattle.rf_resolve.proofs.CallsFit.{predicate_at-made, predicates_made}
 use Rattle.rf_resolve.proofs.ClearPlaces.{place_if-nil}
 use Rattle.rf_resolve.proofs.SenseLemmas.{IsCallOf, IsCallOf-from_nil, is_there}
-use Rattle.rf_resolve.proofs.VariableLemmas.{length-variable_numbers, position-some, variable_number-below, variable_numbers-below, with_variable-longer, with_variables-append, with_variables-longer}
+use Rattle.rf_names.proofs.VariableLemmas.{length-variable_numbers, position-some, variable_number-below, variable_numbers-below, with_variable-longer, with_variables-append, with_variables-longer}
 
 module _ (d : Declared) where
   -- whether a literal calls what is there by its number of arguments, with variables below m

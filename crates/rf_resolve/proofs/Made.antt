@@ -1,17 +1,17 @@
 -- What a text that breaks no rule gives to those who make its problem.
-use Rattle.std.proofs.Common.{◌≡◌, ◌∙◌, ◌≤◌, ◌<◌, ◌^◌, ◌⊎◌, ◌++◌, ℕ, All, List, map, length, Result, Ok, Err, IfOk, IfErr, MatchResult, Some, None, refl, sym, ap, subst, inl, inr, arith}
+use Rattle.std.proofs.Common.{◌≡◌, ◌∙◌, ◌≤◌, ◌<◌, ◌^◌, ◌⊎◌, ◌++◌, All, List, map, length, Result, Ok, Err, IfOk, IfErr, MatchResult, Some, None, sym, ap, subst, inl, inr, arith}
 use Rattle.std.proofs.lemmas.List.Elements.{All-weaker}
 use Rattle.rf_problem.specs.Valid.{concrete_numbers, new_object}
 use Rattle.rf_problem.specs.declared.class.Class.{Class}
 use Rattle.rf_problem.specs.declared.problem.Problem.{Problem}
 use Rattle.rf_problem.proofs.ProblemLemmas.{same_problem}
 use Rattle.rf_syntax.specs.declared.statement.Ast.{Ast}
-use Rattle.rf_resolve.specs.Declarations.{Declared, declared_in, references_of}
-use Rattle.rf_resolve.specs.Fault.{Passes, Resolves, fault_of}
-use Rattle.rf_resolve.specs.LookUp.{named_objects}
+use Rattle.rf_names.specs.Declarations.{Declared, declared_in, references_of}
+use Rattle.rf_resolve.specs.Fault.{Resolves, fault_of}
+use Rattle.rf_names.specs.LookUp.{named_objects}
 use Rattle.rf_resolve.specs.Readable.{IsReadableDeclared, IsReadableTree}
 use Rattle.rf_resolve.specs.Resolved.{IsResolved, resolved_class, resolved_object, resolved_reference}
-use Rattle.rf_resolve.specs.declared.error.LimitKind.TheVariants.{Classes}
+use Rattle.rf_limits.specs.declared.kind.LimitKind.TheVariants.{Classes}
 use Rattle.rf_resolve.specs.declared.error.NameError.{NameError}
 use Rattle.rf_resolve.specs.declared.error.NameError.TheVariants.{Memory}
 use Rattle.rf_resolve.proofs.ClassesFit.{class_count}

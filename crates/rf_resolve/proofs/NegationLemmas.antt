@@ -8,7 +8,7 @@ use Rattle.std.proofs.lemmas.List.Folds.{Any-from_list_any}
 use Rattle.rf_problem.specs.Valid.{ranges_over}
 use Rattle.rf_problem.specs.declared.predicate.Literal.{Literal}
 use Rattle.rf_problem.specs.declared.predicate.Literal.TheVariants.{Call, Same, Differ}
-use Rattle.rf_resolve.specs.LookUp.{numbers_where}
+use Rattle.rf_names.specs.LookUp.{numbers_where}
 use Rattle.rf_resolve.specs.Resolved.{mentions, negates, negation_around, only_one}
 use Rattle.rf_resolve.proofs.ClearPlaces.{cons_not_nil}
 

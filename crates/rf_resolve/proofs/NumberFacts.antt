@@ -4,10 +4,9 @@ use Rattle.std.specs.Prelude.{◌==◌, ◌&&◌}
 use Rattle.std.proofs.lemmas.Bool.{cases_Bool, eqb-true}
 use Rattle.std.proofs.lemmas.List.Elements.{All-cons, All-nil}
 use Rattle.std.proofs.lemmas.List.Quantifiers.{position-Some}
-use Rattle.rf_resolve.specs.LookUp.{class_named, extends_somehow, members_of_some, numbers_where, own_members, inherited_members, own_or_inherited, reads, references_named}
-use Rattle.rf_resolve.specs.Declarations.{Declared}
-use Rattle.rf_resolve.specs.Resolved.{the_number}
-use Rattle.rf_resolve.specs.Places.{is_same_number}
+use Rattle.rf_names.specs.LookUp.{class_named, extends_somehow, inherited_members, members_of_some, numbers_where, own_members, own_or_inherited, reads, references_named, the_number}
+use Rattle.rf_names.specs.Declarations.{Declared}
+use Rattle.rf_name_rules.specs.Places.{is_same_number}
 
 -- a number that isn't missing
 pub some_number : (o : Option ℕ) → is_none o ≡ false → o ≡ Some (the_number o)

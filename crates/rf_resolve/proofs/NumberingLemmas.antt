@@ -1,11 +1,10 @@
 -- The variables of a clause and their numbers, name by name.
-use Rattle.std.proofs.Common.{◌≡◌, ◌<◌, ◌≤◌, ◌+◌, ℕ, suc, List, [], ◌∷◌, ◌++◌, length, take, drop, get_or, arith, refl, sym, ap, ◌∙◌}
+use Rattle.std.proofs.Common.{◌≡◌, ◌<◌, ◌≤◌, ◌+◌, ℕ, List, [], ◌∷◌, ◌++◌, length, take, drop, get_or, arith, refl, sym, ap, ◌∙◌}
 use Rattle.std.proofs.lemmas.Grind.{common_steps}
 use Rattle.std.proofs.lemmas.List.{take-append-drop, take_more}
 use Rattle.rf_syntax.specs.declared.name.Name.{Name}
-use Rattle.rf_resolve.specs.Bodies.{with_variable, with_variables}
-use Rattle.rf_resolve.specs.Resolved.{variable_number, variable_numbers}
-use Rattle.rf_resolve.proofs.VariableLemmas.{with_variable-longer, with_variables-append, with_variables-longer}
+use Rattle.rf_names.specs.Bodies.{variable_number, variable_numbers, with_variable, with_variables}
+use Rattle.rf_names.proofs.VariableLemmas.{with_variable-longer, with_variables-append, with_variables-longer}
 
 -- one name more
 pub with_variables_more : (known names : List Name) (i : ℕ) (name : Name) → i < length names →

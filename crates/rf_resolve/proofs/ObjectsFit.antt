@@ -10,10 +10,10 @@ use Rattle.rf_problem.specs.declared.object.ObjectDecl.{ObjectDecl}
 use Rattle.rf_problem.specs.declared.object.ObjectName.TheVariants.{Named}
 use Rattle.rf_syntax.specs.declared.name.Name.{Name}
 use Rattle.rf_text.specs.Written.{CanBeQuoted}
-use Rattle.rf_resolve.specs.declared.error.LimitKind.TheVariants.{Objects}
-use Rattle.rf_resolve.specs.Declarations.{Declared}
+use Rattle.rf_limits.specs.declared.kind.LimitKind.TheVariants.{Objects}
+use Rattle.rf_names.specs.Declarations.{Declared}
 use Rattle.rf_resolve.specs.Fault.{Passes}
-use Rattle.rf_resolve.specs.LookUp.{first_of_each, is_text_of, item_named, named_objects, reads}
+use Rattle.rf_names.specs.LookUp.{first_of_each, is_text_of, item_named, named_objects, reads}
 use Rattle.rf_resolve.specs.Readable.{IsReadableDeclared, IsSmallRange}
 use Rattle.rf_resolve.specs.Resolved.{resolved_class, resolved_object}
 use Rattle.rf_resolve.proofs.ClearPlaces.{few-from_first_past}

@@ -9,9 +9,9 @@ use Rattle.rf_problem.specs.declared.predicate.Predicate.{Predicate}
 use Rattle.rf_problem.specs.declared.reference.Reference.{Reference as Relation}
 use Rattle.rf_problem.specs.declared.scope.Scope.{Scope}
 use Rattle.rf_syntax.specs.declared.statement.Ast.{Ast}
-use Rattle.rf_resolve.specs.Declarations.{Declared, declared_in}
+use Rattle.rf_names.specs.Declarations.{Declared, declared_in}
 use Rattle.rf_resolve.specs.Fault.{Passes}
-use Rattle.rf_resolve.specs.LookUp.{named_objects}
+use Rattle.rf_names.specs.LookUp.{named_objects}
 use Rattle.rf_resolve.specs.Readable.{IsReadableDeclared, IsReadableTree}
 use Rattle.rf_resolve.specs.Resolved.{resolved_assertion, resolved_class, resolved_object, resolved_predicate, resolved_reference, resolved_scope}
 use Rattle.rf_resolve.proofs.AssertionsFit.{assertions_fit}

@@ -1,13 +1,15 @@
 -- Declarations in which no fault is found pass each rule and each limit.
-use Rattle.std.proofs.Common.{◌≡◌, ◌<◌, ◌∙◌, ℕ, Bool, true, false, List, [], ◌∷◌, Option, None, Some, refl, sym, ap}
+use Rattle.std.proofs.Common.{◌≡◌, ℕ, Bool, true, false, List, [], ◌∷◌, Option, None, Some, refl}
 use Rattle.std.specs.Prelude.{if◌then◌else◌, nat_lt}
 use Rattle.std.specs.Option.{option_map, option_or}
-use Rattle.rf_resolve.specs.Declarations.{Declared}
-use Rattle.rf_resolve.specs.Fault.{Excess, Passes, earlier, earliest, excess_at, fault_of, first_of, least_of, lesser, limit_error}
-use Rattle.rf_resolve.specs.Limits.{limit_kinds, limit_places}
-use Rattle.rf_resolve.specs.Places.{ambiguous_places, arity_places, bad_container_places, bad_opposite_places, bad_range_places, cycle_places, equals_two_places, loose_places, recursive_places, twice_places, unknown_places}
-use Rattle.rf_resolve.specs.declared.error.LimitKind.{LimitKind}
-use Rattle.rf_resolve.specs.declared.error.LimitKind.TheVariants.{Classes, References, Predicates, Scopes, Parameters, Clauses, Literals, Variables, Objects, Assertions}
+use Rattle.rf_names.specs.Declarations.{Declared}
+use Rattle.rf_limits.specs.Limits.{Excess, earlier, earliest, excess_at, limit_kinds, limit_places}
+use Rattle.rf_resolve.specs.Fault.{Passes, fault_of, first_of, limit_error}
+use Rattle.rf_names.specs.LeastPlace.{least_of, lesser}
+use Rattle.rf_name_rules.specs.Places.{ambiguous_places, arity_places, bad_container_places, bad_opposite_places, bad_range_places, cycle_places, equals_two_places, twice_places, unknown_places}
+use Rattle.rf_clause_rules.specs.ClausePlaces.{loose_places, recursive_places}
+use Rattle.rf_limits.specs.declared.kind.LimitKind.{LimitKind}
+use Rattle.rf_limits.specs.declared.kind.LimitKind.TheVariants.{Classes, References, Predicates, Scopes, Parameters, Clauses, Literals, Variables, Objects, Assertions}
 use Rattle.rf_resolve.specs.declared.error.NameError.{NameError}
 use Rattle.rf_resolve.specs.declared.error.NameError.TheVariants.{Twice, Unknown, Ambiguous, ClassCycle, BadOpposite, BadContainer, BadRange, Arity, LooseVariable, Recursive, EqualsTwo}
 

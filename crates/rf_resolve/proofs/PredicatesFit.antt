@@ -10,14 +10,15 @@ use Rattle.rf_syntax.specs.declared.statement.Ast.{Ast}
 use Rattle.rf_syntax.specs.declared.statement.Statement.{Statement}
 use Rattle.rf_syntax.specs.declared.statement.Statement.TheVariants.{Class, Predicate as PredicateStatement, Declare, Multi, Scope, Assert}
 use Rattle.rf_text.specs.Written.{CanBeQuoted}
-use Rattle.rf_resolve.specs.Bodies.{clause_variables, first_name}
-use Rattle.rf_resolve.specs.Declarations.{Declared, PredicateDecl, declared_in, items_of, predicates_in}
+use Rattle.rf_names.specs.Bodies.{clause_variables, first_name}
+use Rattle.rf_names.specs.Declarations.{Declared, PredicateDecl, declared_in, items_of, predicates_in}
 use Rattle.rf_resolve.specs.Fault.{Passes}
-use Rattle.rf_resolve.specs.Limits.{clause_name, first_past}
-use Rattle.rf_resolve.specs.Places.{ambiguous_literal, literal_arity, places_in_literals, unknown_assertion, unknown_bound, unknown_class, unknown_literal, unknown_param_class, unknown_places, unknown_reference}
+use Rattle.rf_limits.specs.Limits.{clause_name, first_past}
+use Rattle.rf_name_rules.specs.Places.{ambiguous_literal, literal_arity, unknown_assertion, unknown_bound, unknown_class, unknown_literal, unknown_param_class, unknown_places, unknown_reference}
+use Rattle.rf_names.specs.LeastPlace.{places_in_literals}
 use Rattle.rf_resolve.specs.Readable.{IsReadableDeclared}
 use Rattle.rf_resolve.specs.Resolved.{resolved_class, resolved_clause, resolved_predicate, resolved_reference}
-use Rattle.rf_resolve.specs.declared.error.LimitKind.TheVariants.{Predicates, Parameters, Clauses, Literals, Variables}
+use Rattle.rf_limits.specs.declared.kind.LimitKind.TheVariants.{Predicates, Parameters, Clauses, Literals, Variables}
 use Rattle.rf_resolve.proofs.CallsFit.{calls-no_cycle, predicates_made}
 use Rattle.rf_resolve.proofs.ClauseFit.{FitsClause-from_sound, IsSoundClause}
 use Rattle.rf_resolve.proofs.ClearPlaces.{few-from_first_past, nil-each, nil-left, nil-right, places_in_clauses-each, places_in_literals-each}

@@ -34,7 +34,7 @@ use Rattle.rf_syntax.specs.declared.statement.Item.{Item}
 use Rattle.rf_syntax.specs.declared.statement.Statement.{Statement}
 use Rattle.rf_syntax.specs.declared.statement.Statement.TheVariants.{Assert, Class as ClassOf, Declare, Multi, Predicate as PredicateOf, Scope}
 use Rattle.rf_text.specs.Written.{CanBeQuoted}
-use Rattle.rf_resolve.specs.Declarations.{ClassDecl, PredicateDecl, ReferenceDecl, asserted_atom, bounds_in, classes_in, declared_in, features_or_none, items_in, items_of, mentions_in, object_alone, object_in, predicates_in, references_of}
+use Rattle.rf_names.specs.Declarations.{ClassDecl, PredicateDecl, ReferenceDecl, asserted_atom, bounds_in, classes_in, declared_in, features_or_none, items_in, items_of, mentions_in, object_alone, object_in, predicates_in, references_of}
 use Rattle.rf_resolve.specs.Readable.{IsReadable, IsReadableDeclared, IsReadableTree, IsSmallMult, IsSmallRange}
 use Rattle.rf_resolve.specs.Resolved.{upper_end}
 use Rattle.rf_resolve.proofs.PairFacts.{All-back, All-flat_map, All-flatten, All-front, All-unmap}

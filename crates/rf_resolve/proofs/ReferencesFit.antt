@@ -10,13 +10,13 @@ use Rattle.rf_problem.specs.declared.reference.Reference.{Reference as Relation}
 use Rattle.rf_syntax.specs.declared.class.Feature.{Feature}
 use Rattle.rf_syntax.specs.declared.name.Name.{Name}
 use Rattle.rf_text.specs.Written.{CanBeQuoted}
-use Rattle.rf_resolve.specs.declared.error.LimitKind.TheVariants.{References}
-use Rattle.rf_resolve.specs.Declarations.{ClassDecl, Declared, ReferenceDecl, references_of}
+use Rattle.rf_limits.specs.declared.kind.LimitKind.TheVariants.{References}
+use Rattle.rf_names.specs.Declarations.{ClassDecl, Declared, ReferenceDecl, references_of}
 use Rattle.rf_resolve.specs.Fault.{Passes}
-use Rattle.rf_resolve.specs.LookUp.{class_named}
-use Rattle.rf_resolve.specs.Places.{bad_opposite, bad_opposites_from, feature_names, is_same_number, kept_members, leads_back, reference_decl_at, no_reference_decl, repeated, unknown_class, unknown_opposite, unknown_reference}
+use Rattle.rf_names.specs.LookUp.{class_named, opposite_of, opposites_named, the_first, the_number}
+use Rattle.rf_name_rules.specs.Places.{bad_opposite, bad_opposites_from, feature_names, is_same_number, kept_members, leads_back, no_reference_decl, reference_decl_at, repeated, unknown_class, unknown_opposite, unknown_reference}
 use Rattle.rf_resolve.specs.Readable.{IsReadableDeclared}
-use Rattle.rf_resolve.specs.Resolved.{opposite_of, opposites_named, resolved_class, resolved_reference, the_first, the_number}
+use Rattle.rf_resolve.specs.Resolved.{resolved_class, resolved_reference}
 use Rattle.rf_resolve.proofs.ClassesFit.{class_count}
 use Rattle.rf_resolve.proofs.ClearPlaces.{nil-parts, few-from_first_past, nil-each, place_if-nil}
 use Rattle.rf_resolve.proofs.FreshNames.{AreFresh, AreFresh-apart, AreFresh-from_repeated}

@@ -2,9 +2,10 @@
 use Rattle.std.proofs.Common.{◌≡◌, ℕ, false, List, [], ◌++◌, get_or, All, is_none}
 use Rattle.std.specs.List.{flat_map}
 use Rattle.rf_syntax.specs.declared.name.Name.{Name}
-use Rattle.rf_resolve.specs.Declarations.{Declared}
-use Rattle.rf_resolve.specs.LookUp.{assertion_symbols, class_named, sense_of}
-use Rattle.rf_resolve.specs.Places.{ambiguous_literal, ambiguous_opposite, ambiguous_places, ambiguous_symbol, feature_names, kept_members, kept_names, params_apart, places_in_literals, repeated, twice_places, unknown_assertion, unknown_bound, unknown_class, unknown_literal, unknown_param_class, unknown_places, unknown_reference}
+use Rattle.rf_names.specs.Declarations.{Declared}
+use Rattle.rf_names.specs.LookUp.{assertion_symbols, class_named, sense_of}
+use Rattle.rf_name_rules.specs.Places.{ambiguous_literal, ambiguous_opposite, ambiguous_places, ambiguous_symbol, feature_names, kept_members, kept_names, params_apart, repeated, twice_places, unknown_assertion, unknown_bound, unknown_class, unknown_literal, unknown_param_class, unknown_places, unknown_reference}
+use Rattle.rf_names.specs.LeastPlace.{places_in_literals}
 use Rattle.rf_resolve.proofs.ClearPlaces.{nil-parts, nil-each, place_if-nil}
 
 module _ (d : Declared) where

@@ -4,8 +4,8 @@ use Rattle.std.specs.Option.{ForSome}
 use Rattle.std.proofs.lemmas.List.{length-map}
 use Rattle.std.proofs.lemmas.List.Elements.{All-map}
 use Rattle.rf_problem.specs.Valid.{AreScopes, IsSmall}
-use Rattle.rf_resolve.specs.declared.error.LimitKind.TheVariants.{Scopes}
-use Rattle.rf_resolve.specs.Declarations.{Declared}
+use Rattle.rf_limits.specs.declared.kind.LimitKind.TheVariants.{Scopes}
+use Rattle.rf_names.specs.Declarations.{Declared}
 use Rattle.rf_resolve.specs.Fault.{Passes}
 use Rattle.rf_resolve.specs.Readable.{IsReadableDeclared}
 use Rattle.rf_resolve.specs.Resolved.{resolved_class, resolved_scope}

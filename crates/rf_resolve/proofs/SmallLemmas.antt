@@ -1,15 +1,15 @@
 -- Predicates that pass no limit have few parameters, literals and variables.
-use Rattle.std.proofs.Common.{◌≡◌, ◌≤◌, ℕ, List, [], length, get_or, All, arith}
+use Rattle.std.proofs.Common.{◌≡◌, ◌≤◌, List, [], length, get_or, All, arith}
 use Rattle.std.proofs.lemmas.List.{length-append}
 use Rattle.rf_syntax.specs.declared.predicate.BodyLiteral.{BodyLiteral}
 use Rattle.rf_syntax.specs.declared.predicate.Param.{Param}
-use Rattle.rf_resolve.specs.Bodies.{clause_variables, first_name, param_names}
-use Rattle.rf_resolve.specs.Declarations.{Declared, PredicateDecl}
-use Rattle.rf_resolve.specs.Limits.{first_past, limit_places}
+use Rattle.rf_names.specs.Bodies.{clause_variables, first_name, param_names}
+use Rattle.rf_names.specs.Declarations.{Declared, PredicateDecl}
+use Rattle.rf_limits.specs.Limits.{first_past, limit_places}
 use Rattle.rf_resolve.specs.Resolved.{all_literals, class_literals, resolved_literals}
 use Rattle.rf_resolve.specs.Small.{IsSmallClause, IsSmallPredicate}
-use Rattle.rf_resolve.specs.declared.error.LimitKind.{LimitKind}
-use Rattle.rf_resolve.specs.declared.error.LimitKind.TheVariants.{Literals, Parameters, Variables}
+use Rattle.rf_limits.specs.declared.kind.LimitKind.{LimitKind}
+use Rattle.rf_limits.specs.declared.kind.LimitKind.TheVariants.{Literals, Parameters, Variables}
 use Rattle.rf_resolve.proofs.ClearPlaces.{few-from_first_past, nil-each, places_in_clauses-each}
 use Rattle.rf_resolve.proofs.LiteralsFit.{length-class_literals, length-resolved_literals}
 

@@ -1,45 +1,17 @@
 -- Why the names of a text don't make a problem.
-use Rattle.std.specs.Prelude.{◌≡◌, nat_lt, nat_le, min, ℕ, Bool, List, [], ◌∷◌, map, Option, None, Some, if◌then◌else◌}
-use Rattle.std.specs.Option.{option_map, option_or}
+use Rattle.std.specs.Prelude.{List, [], ◌∷◌, Option, None, ◌≡◌, Some}
+use Rattle.std.specs.Option.{option_or, option_map}
 use Rattle.rf_problem.specs.declared.problem.Problem.{Problem}
 use Rattle.rf_syntax.specs.declared.statement.Ast.{Ast}
-use Rattle.rf_resolve.specs.Declarations.{Declared, declared_in}
-use Rattle.rf_resolve.specs.Limits.{limit_kinds, limit_places}
-use Rattle.rf_resolve.specs.Places.{ambiguous_places, arity_places, bad_container_places, bad_opposite_places, bad_range_places, cycle_places, equals_two_places, loose_places, recursive_places, twice_places, unknown_places}
-use Rattle.rf_resolve.specs.Resolved.{IsResolved}
-use Rattle.rf_resolve.specs.declared.error.LimitKind.{LimitKind}
 use Rattle.rf_resolve.specs.declared.error.NameError.{NameError}
-use Rattle.rf_resolve.specs.declared.error.NameError.TheVariants.{Twice, Unknown, Ambiguous, ClassCycle, BadOpposite, BadContainer, BadRange, Arity, LooseVariable, Recursive, EqualsTwo, Limit}
-
--- the lesser of two places, where there are such
-abbrev pub lesser : Option ℕ → Option ℕ → Option ℕ
-lesser None b = b
-lesser (Some a) None = Some a
-lesser (Some a) (Some b) = Some (min a b)
-
--- the least of the places
-abbrev pub least_of : List ℕ → Option ℕ
-least_of [] = None
-least_of (at ∷ ats) = lesser (Some at) (least_of ats)
-
--- a place past a limit
-pub record Excess : Type 0 where
-  pub at : ℕ
-  pub kind : LimitKind
-
-abbrev pub excess_at : LimitKind → ℕ → Excess
-excess_at kind at = record { at = at; kind = kind }
-
--- the one at the lesser place, the first of two at the same
-abbrev pub earlier : Option Excess → Option Excess → Option Excess
-earlier None b = b
-earlier (Some a) None = Some a
-earlier (Some a) (Some b) = if nat_lt b.at a.at then Some b else Some a
-
--- the earliest place past a limit of these kinds
-abbrev pub earliest : Declared → List LimitKind → Option Excess
-earliest d [] = None
-earliest d (k ∷ ks) = earlier (option_map (excess_at k) (least_of (limit_places d k))) (earliest d ks)
+use Rattle.rf_resolve.specs.declared.error.NameError.TheVariants.{Limit, Twice, Unknown, Ambiguous, ClassCycle, BadOpposite, BadContainer, BadRange, Arity, LooseVariable, Recursive, EqualsTwo}
+use Rattle.rf_limits.specs.Limits.{Excess, limit_kinds, earliest, limit_places}
+use Rattle.rf_names.specs.Declarations.{Declared, declared_in}
+use Rattle.rf_name_rules.specs.Places.{ambiguous_places, arity_places, bad_container_places, bad_opposite_places, bad_range_places, cycle_places, equals_two_places, twice_places, unknown_places}
+use Rattle.rf_clause_rules.specs.ClausePlaces.{loose_places, recursive_places}
+use Rattle.rf_names.specs.LeastPlace.{least_of}
+use Rattle.rf_resolve.specs.Resolved.{IsResolved}
+use Rattle.rf_limits.specs.declared.kind.LimitKind.{LimitKind}
 
 abbrev pub limit_error : Excess → NameError
 limit_error e = Limit e.kind e.at

@@ -1,13 +1,5 @@
-pub mod Bodies
-pub mod Declarations
 pub mod Fault
-pub mod Limits
-pub mod LookUp
-pub mod Places
 pub mod Readable
 pub mod Resolved
-pub mod Tables
 pub mod Small
-pub mod Calls
-pub mod Occurrences
 pub mod Texts

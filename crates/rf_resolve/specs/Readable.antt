@@ -1,17 +1,17 @@
 -- Trees whose names and numbers are those of texts.
-use Rattle.std.specs.Prelude.{ℕ, ◌≤◌, List, All}
+use Rattle.std.specs.Prelude.{◌≤◌, All}
 use Rattle.std.specs.Option.{ForSome}
 use Rattle.rf_lexer.specs.declared.token.Kind.{Kind}
 use Rattle.rf_lexer.specs.declared.token.Kind.TheVariants.{Word, Name, Quoted, Number, Mark}
 use Rattle.rf_problem.specs.Valid.{greatest_number}
-use Rattle.rf_syntax.specs.declared.class.MultPlace.{MultPlace}
-use Rattle.rf_syntax.specs.declared.class.MultPlace.TheVariants.{Absent as NoMult, AfterType, AfterName}
-use Rattle.rf_syntax.specs.declared.range.Range.{Range}
+use Rattle.rf_text.specs.Written.{CanBeQuoted}
 use Rattle.rf_syntax.specs.declared.statement.Ast.{Ast}
 use Rattle.rf_syntax.specs.Statement.{spelling_of}
-use Rattle.rf_text.specs.Written.{CanBeQuoted}
-use Rattle.rf_resolve.specs.Declarations.{Declared}
+use Rattle.rf_syntax.specs.declared.range.Range.{Range}
+use Rattle.rf_syntax.specs.declared.class.MultPlace.{MultPlace}
+use Rattle.rf_syntax.specs.declared.class.MultPlace.TheVariants.{Absent as NoMult, AfterType, AfterName}
 use Rattle.rf_resolve.specs.Resolved.{upper_end}
+use Rattle.rf_names.specs.Declarations.{Declared}
 
 -- a name has at most 255 bytes, and no single quote or line end among them; a number is at most
 -- 1,000,000

@@ -1,61 +1,37 @@
 -- The problem that a text stands for: each list is that of its declarations in order, and each number
 -- the place of what its name stands for.
-use Rattle.std.specs.Prelude.{◌≡◌, ◌==◌, ◌&&◌, not, nat_lt, ℕ, suc, Bool, true, false, List, [], ◌∷◌, ◌++◌, map, length, position, slice_index_or, Option, None, Some, if◌then◌else◌, codes}
+use Rattle.std.specs.Prelude.{ℕ, Option, None, Some, map, List, [], ◌∷◌, false, suc, ◌++◌, ◌==◌, Bool, ◌&&◌, if◌then◌else◌, nat_lt, length, ◌≡◌}
 use Rattle.std.specs.List.{list_any, range_with_len}
-use Rattle.std.specs.Option.{option_map}
-use Rattle.rf_problem.specs.declared.assertion.Assertion.{Assertion}
-use Rattle.rf_problem.specs.declared.class.Class.{Class}
-use Rattle.rf_problem.specs.declared.object.ObjectDecl.{ObjectDecl}
-use Rattle.rf_problem.specs.declared.object.ObjectName.TheVariants.{Named}
-use Rattle.rf_problem.specs.declared.predicate.Clause.{Clause}
-use Rattle.rf_problem.specs.declared.predicate.Literal.{Literal}
-use Rattle.rf_problem.specs.declared.predicate.Literal.TheVariants.{Call as Calls, Same as IsSame, Differ as Differs}
-use Rattle.rf_problem.specs.declared.predicate.Predicate.{Predicate}
-use Rattle.rf_problem.specs.declared.problem.Problem.{Problem}
-use Rattle.rf_problem.specs.declared.reference.RefKind.{RefKind}
-use Rattle.rf_problem.specs.declared.reference.RefKind.TheVariants.{Plain, Contains, Container}
-use Rattle.rf_problem.specs.declared.reference.Reference.{Reference}
-use Rattle.rf_problem.specs.declared.scope.Scope.{Scope}
-use Rattle.rf_problem.specs.declared.symbol.Symbol.{Symbol}
-use Rattle.rf_problem.specs.declared.symbol.Symbol.TheVariants.{Class as OfClass, Exists}
-use Rattle.rf_problem.specs.Valid.{concrete_numbers, new_object}
-use Rattle.rf_syntax.specs.declared.assertion.Arg.{Arg}
-use Rattle.rf_syntax.specs.declared.assertion.Arg.TheVariants.{Star, Symbol as OfSymbol}
-use Rattle.rf_syntax.specs.declared.class.FeatureWord.{FeatureWord}
-use Rattle.rf_syntax.specs.declared.class.FeatureWord.TheVariants.{Contains as ContainsWord, Container as ContainerWord, Refers}
+use Rattle.rf_syntax.specs.declared.range.Upper.{Upper}
+use Rattle.rf_syntax.specs.declared.range.Upper.TheVariants.{Absent, Star as Unbounded, Number}
+use Rattle.rf_syntax.specs.declared.range.Range.{Range}
+use Rattle.rf_values.specs.declared.count.Count.{Count}
 use Rattle.rf_syntax.specs.declared.class.MultPlace.{MultPlace}
 use Rattle.rf_syntax.specs.declared.class.MultPlace.TheVariants.{Absent as NoMult, AfterType, AfterName}
+use Rattle.rf_problem.specs.declared.class.Class.{Class}
+use Rattle.rf_problem.specs.declared.reference.Reference.{Reference}
+use Rattle.rf_problem.specs.declared.predicate.Literal.{Literal}
+use Rattle.rf_problem.specs.declared.predicate.Literal.TheVariants.{Call as Calls, Same as IsSame, Differ as Differs}
 use Rattle.rf_syntax.specs.declared.name.Name.{Name}
 use Rattle.rf_syntax.specs.declared.predicate.BodyLiteral.{BodyLiteral}
 use Rattle.rf_syntax.specs.declared.predicate.BodyLiteral.TheVariants.{Call, Same, Differ}
+use Rattle.rf_problem.specs.declared.symbol.Symbol.TheVariants.{Class as OfClass}
 use Rattle.rf_syntax.specs.declared.predicate.Param.{Param}
-use Rattle.rf_syntax.specs.declared.range.Range.{Range}
-use Rattle.rf_syntax.specs.declared.range.Upper.{Upper}
-use Rattle.rf_syntax.specs.declared.range.Upper.TheVariants.{Absent, Star as Unbounded, Number}
-use Rattle.rf_syntax.specs.declared.statement.Bound.{Bound}
+use Rattle.rf_problem.specs.declared.predicate.Clause.{Clause}
+use Rattle.rf_problem.specs.declared.predicate.Predicate.{Predicate}
 use Rattle.rf_syntax.specs.declared.statement.Item.{Item}
-use Rattle.rf_values.specs.declared.count.Count.{Count}
-use Rattle.rf_resolve.specs.Bodies.{clause_variables, is_variable_of, literal_names, param_names, with_variable, with_variables}
-use Rattle.rf_resolve.specs.Declarations.{AssertDecl, ClassDecl, Declared, PredicateDecl, ReferenceDecl}
-use Rattle.rf_resolve.specs.LookUp.{assertion_symbols, class_named, item_named, literal_symbols, members_of_some, named_objects, new_object_of, numbers_where, object_named, reads, sense_of}
-use Rattle.rf_resolve.specs.declared.sense.Sense.{Sense}
-use Rattle.rf_resolve.specs.declared.sense.Sense.TheVariants.{Nothing, One, Several}
-
--- the number that is there
-abbrev pub the_number : Option ℕ → ℕ
-the_number None = 0
-the_number (Some n) = n
-
--- the first number
-abbrev pub the_first : List ℕ → Option ℕ
-the_first [] = None
-the_first (n ∷ ns) = Some n
-
--- the symbol that a name stands for
-abbrev pub the_symbol : Sense → Symbol
-the_symbol Nothing = Exists
-the_symbol (One s) = s
-the_symbol Several = Exists
+use Rattle.rf_problem.specs.declared.object.ObjectDecl.{ObjectDecl}
+use Rattle.rf_problem.specs.declared.object.ObjectName.TheVariants.{Named}
+use Rattle.rf_syntax.specs.declared.assertion.Arg.{Arg}
+use Rattle.rf_syntax.specs.declared.assertion.Arg.TheVariants.{Star, Symbol as OfSymbol}
+use Rattle.rf_problem.specs.declared.assertion.Assertion.{Assertion}
+use Rattle.rf_problem.specs.declared.scope.Scope.{Scope}
+use Rattle.rf_syntax.specs.declared.statement.Bound.{Bound}
+use Rattle.rf_problem.specs.declared.problem.Problem.{Problem}
+use Rattle.rf_problem.specs.Valid.{concrete_numbers, new_object}
+use Rattle.rf_names.specs.Declarations.{ClassDecl, Declared, ReferenceDecl, kind_of_word, PredicateDecl, AssertDecl}
+use Rattle.rf_names.specs.LookUp.{class_named, the_number, opposite_of, literal_symbols, sense_of, the_symbol, numbers_where, item_named, new_object_of, object_named, assertion_symbols, named_objects}
+use Rattle.rf_names.specs.Bodies.{with_variable, variable_number, variable_numbers, literal_names, with_variables, param_names, clause_variables}
 
 -- the upper end of a range: that of its lower number alone is that number
 abbrev pub upper_end : ℕ → Upper → Option ℕ
@@ -81,13 +57,6 @@ count_of_mult NoMult = record { lo = 0; hi = Some 1 }
 count_of_mult (AfterType m) = count_or_any m.range
 count_of_mult (AfterName m) = count_or_any m.range
 
--- the kind of a reference, by the word in front of it
-abbrev pub kind_of_word : Option FeatureWord → RefKind
-kind_of_word None = Plain
-kind_of_word (Some Refers) = Plain
-kind_of_word (Some ContainsWord) = Contains
-kind_of_word (Some ContainerWord) = Container
-
 -- a class
 abbrev pub resolved_class : Declared → ClassDecl → Class
 resolved_class d c = record {
@@ -95,14 +64,6 @@ resolved_class d c = record {
   is_abstract = c.is_abstract;
   supers = map (λ s. the_number (class_named d s.text)) c.supers;
 }
-
--- what the name behind `opposite` stands for: a member of the target
-abbrev pub opposites_named : Declared → ReferenceDecl → Name → List ℕ
-opposites_named d r name = members_of_some d (class_named d r.feature.target.text) name.text
-
-abbrev pub opposite_of : Declared → ReferenceDecl → Option Name → Option ℕ
-opposite_of d r None = None
-opposite_of d r (Some name) = the_first (opposites_named d r name)
 
 -- a reference
 abbrev pub resolved_reference : Declared → ReferenceDecl → Reference
@@ -114,16 +75,6 @@ resolved_reference d r = record {
   range = count_of_mult r.feature.mult;
   opposite = opposite_of d r r.feature.opposite;
 }
-
--- the number of the variable that a name stands for, behind these variables
-abbrev pub variable_number : List Name → Name → ℕ
-variable_number known name =
-    if is_variable_of known name then the_number (position (reads name.text) known) else length known
-
--- the numbers of the variables that names stand for, one after another
-abbrev pub variable_numbers : List Name → List Name → List ℕ
-variable_numbers known [] = []
-variable_numbers known (n ∷ ns) = variable_number known n ∷ variable_numbers (with_variable known n) ns
 
 -- a literal behind these variables
 abbrev pub resolved_literal : Declared → List Name → BodyLiteral → Literal

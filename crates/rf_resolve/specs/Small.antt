@@ -1,9 +1,9 @@
 -- Clauses and predicates within the limits.
-use Rattle.std.specs.Prelude.{◌≤◌, List, All, length}
+use Rattle.std.specs.Prelude.{◌≤◌, List, length, All}
 use Rattle.rf_syntax.specs.declared.predicate.BodyLiteral.{BodyLiteral}
 use Rattle.rf_syntax.specs.declared.predicate.Param.{Param}
-use Rattle.rf_resolve.specs.Bodies.{clause_variables}
-use Rattle.rf_resolve.specs.Declarations.{PredicateDecl}
+use Rattle.rf_names.specs.Bodies.{clause_variables}
+use Rattle.rf_names.specs.Declarations.{PredicateDecl}
 
 -- a clause has few parameters, literals and variables
 pub record IsSmallClause (params : List Param) (clause : List BodyLiteral) : Type 0 where

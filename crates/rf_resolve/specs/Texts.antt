@@ -1,7 +1,7 @@
 -- Declarations of texts.
 use Rattle.std.specs.Prelude.{◌≡◌}
 use Rattle.rf_syntax.specs.declared.statement.Ast.{Ast}
-use Rattle.rf_resolve.specs.Declarations.{Declared, declared_in}
+use Rattle.rf_names.specs.Declarations.{Declared, declared_in}
 use Rattle.rf_resolve.specs.Readable.{IsReadableTree}
 
 -- a tree with names and numbers of texts declares all this, and no more

@@ -2,7 +2,7 @@
 
 ghost use Rattle.std.specs.Prelude.{◌≡◌, ◌==◌, ◌≤◌, IfOk, length, count_by, map, position};
 ghost use Rattle.std.specs.List.{list_any, range_with_len};
-ghost use Rattle.rf_resolve.specs.LookUp.{numbers_where};
+ghost use Rattle.rf_names.specs.LookUp.{numbers_where};
 ghost use Rattle.rf_resolve.specs.Resolved.{entry_of, mentions, negates, negation_around, only_one};
 
 use rf_problem::Literal;

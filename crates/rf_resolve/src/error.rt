@@ -1,23 +1,9 @@
 ghost use Rattle.std.specs.Prelude.{◌≡◌};
 ghost use Rattle.rf_resolve.specs.declared.error.NameError.TheVariants.{Memory};
 
+use rf_limits::LimitKind;
 use std::alloc::{AllocError, AllocFailed};
 use thiserror::Error;
-
-/// What a problem may have only so many of.
-#[derive(Clone, Copy, Debug, PartialEq, Eq)]
-pub enum LimitKind {
-    Classes,
-    References,
-    Predicates,
-    Scopes,
-    Parameters,
-    Clauses,
-    Literals,
-    Variables,
-    Objects,
-    Assertions,
-}
 
 /// Why the names of a text don't make a problem. The rules are asked in this order, and the number is
 /// the least byte place at which the first one that is broken is broken.

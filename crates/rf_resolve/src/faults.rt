@@ -2,25 +2,21 @@
 
 ghost use Rattle.std.specs.Prelude.{◌≡◌, ◌∷◌, [], IfOk};
 ghost use Rattle.std.specs.Option.{option_map};
-ghost use Rattle.rf_resolve.specs.Fault.{earliest, fault_of, first_of, least_of, limit_error};
-ghost use Rattle.rf_resolve.specs.Limits.{limit_kinds};
-ghost use Rattle.rf_resolve.specs.Places.{ambiguous_places, arity_places, bad_container_places, bad_opposite_places, bad_range_places, cycle_places, equals_two_places, loose_places, recursive_places, twice_places, unknown_places};
+ghost use Rattle.rf_limits.specs.Limits.{earliest, limit_kinds};
+ghost use Rattle.rf_resolve.specs.Fault.{fault_of, first_of, limit_error};
+ghost use Rattle.rf_names.specs.LeastPlace.{least_of};
+ghost use Rattle.rf_name_rules.specs.Places.{ambiguous_places, arity_places, bad_container_places, bad_opposite_places, bad_range_places, cycle_places, equals_two_places, twice_places, unknown_places};
+ghost use Rattle.rf_clause_rules.specs.ClausePlaces.{loose_places, recursive_places};
 ghost use Rattle.rf_resolve.specs.declared.error.NameError.TheVariants.{Ambiguous, Arity, BadContainer, BadOpposite, BadRange, ClassCycle, EqualsTwo, LooseVariable, Recursive, Twice, Unknown};
 
 use crate::NameError;
-use crate::ambiguous::ambiguous;
-use crate::arity::arity;
-use crate::containers::bad_container;
-use crate::cycles::class_cycle;
-use crate::equals::equals_two;
-use crate::limits::limits;
-use crate::loose::loose_variable;
-use crate::names::Names;
-use crate::opposites::bad_opposite;
-use crate::ranges::bad_range;
-use crate::recursive::recursive;
-use crate::twice::twice;
-use crate::unknown::unknown;
+use rf_clause_rules::{loose_variable, recursive};
+use rf_limits::limits;
+use rf_name_rules::{
+    ambiguous, arity, bad_container, bad_opposite, bad_range, class_cycle, equals_two, twice,
+    unknown,
+};
+use rf_names::Names;
 use std::alloc::{AllocError, Global};
 
 /// The first rule that is broken, with its least place. A rule is asked only where those in front

@@ -1,16 +1,15 @@
 //! The predicates of the problem.
 
 ghost use Rattle.std.specs.Prelude.{◌≡◌, ◌≤◌, ◌++◌, ◌∷◌, [], All, IfOk, OnOk, length, map};
-ghost use Rattle.rf_resolve.specs.Bodies.{clause_names, clause_variables, literal_names, with_variable, with_variables};
+ghost use Rattle.rf_names.specs.Bodies.{clause_names, clause_variables, literal_names, variable_number, with_variable, with_variables};
 ghost use Rattle.rf_resolve.specs.Fault.{Passes};
-ghost use Rattle.rf_resolve.specs.Resolved.{all_literals, class_literal, class_literals, resolved_clause, resolved_literal, resolved_literals, resolved_predicate, the_number, the_symbol, variable_number};
+ghost use Rattle.rf_resolve.specs.Resolved.{all_literals, class_literal, class_literals, resolved_clause, resolved_literal, resolved_literals, resolved_predicate};
+ghost use Rattle.rf_names.specs.LookUp.{the_number, the_symbol};
 ghost use Rattle.rf_resolve.specs.Small.{IsSmallClause, IsSmallPredicate};
 
-use crate::Sense;
 use crate::entries::entries;
-use crate::forms::{ClauseForm, PredicateForm};
-use crate::names::Names;
 use crate::variables::Variables;
+use rf_names::{ClauseForm, Names, PredicateForm, Sense};
 use rf_problem::{Clause, Literal, Predicate, Symbol};
 use rf_syntax::{BodyLiteral, Name, Param};
 use rf_text::Items;
@@ -93,7 +92,8 @@ fn written<'a>(
     known: &mut Variables<'a>,
     literals: &[&'a BodyLiteral],
 ) -> Result<Vec<Literal>, AllocError>
-    requires { length (with_variables known.old (clause_names (map (λ l. l.now) literals.now))) ≤ 8 }
+    requires { length (with_variables known.old (clause_names (map
+        (λ l. l.now) literals.now))) ≤ 8 }
     ensures literals { IfOk result (λ v. v.items
         ≡ resolved_literals names.now.declared.now known.old (map (λ l. l.now) literals.now)) }
     ensures known { OnOk result (known.new

@@ -1,27 +1,13 @@
 //! The variables of a clause and their numbers.
 
 ghost use Rattle.std.specs.Prelude.{◌≡◌, ◌≤◌, IfOk, None, OnOk, Option, if◌then◌else◌, length, position};
-ghost use Rattle.rf_resolve.specs.Bodies.{is_variable_of, param_names, with_variable, with_variables};
-ghost use Rattle.rf_resolve.specs.LookUp.{is_blank, reads};
-ghost use Rattle.rf_resolve.specs.Resolved.{variable_number, variable_numbers};
+ghost use Rattle.rf_names.specs.Bodies.{is_variable_of, param_names, variable_number, variable_numbers, with_variable, with_variables};
+ghost use Rattle.rf_names.specs.LookUp.{is_blank, reads};
 
+use rf_names::{is_blank, names_of_params, reads};
 use rf_syntax::{Name, Param};
 use std::alloc::{AllocError, Global};
 use std::marker::Model;
-
-/// Whether a name is this text.
-pub fn reads(text: &str, name: &Name) -> bool
-    ensures { result ≡ reads text.now name.now }
-{
-    name.text.as_str() == text
-}
-
-/// Whether a name stands for a variable of its own each time.
-pub fn is_blank(name: &Name) -> bool
-    ensures { result ≡ is_blank name.now }
-{
-    reads("_", name)
-}
 
 fn place_among(names: &[&Name], text: &str) -> Option<usize>
     ensures { result ≡ position (λ n. reads text.now n.now) names.now }
@@ -49,10 +35,7 @@ impl<'a> Variables<'a> {
     pub fn of_params(alloc: Global, params: &'a [Param]) -> Result<Variables<'a>, AllocError>
         ensures { IfOk result (λ v. v ≡ param_names params.now) }
     {
-        let mut names = Vec::new(alloc);
-        for param in params {
-            names.push(&param.name)?;
-        }
+        let names = names_of_params(alloc, params)?;
         Ok(Variables { names })
     }
 

@@ -2,8 +2,8 @@
 use Rattle.std.specs.Prelude.{ℕ, List, ◌++◌, codes, decimal}
 use Rattle.rf_lexer.specs.declared.error.LexError.{LexError}
 use Rattle.rf_lexer.specs.declared.error.LexError.TheVariants.{BadCharacter, OpenComment, OpenQuote, LongName, BigNumber, Memory as NoRoom}
-use Rattle.rf_resolve.specs.declared.error.LimitKind.{LimitKind}
-use Rattle.rf_resolve.specs.declared.error.LimitKind.TheVariants.{Classes, References, Predicates, Scopes, Parameters, Clauses, Literals, Variables, Objects, Assertions}
+use Rattle.rf_limits.specs.declared.kind.LimitKind.{LimitKind}
+use Rattle.rf_limits.specs.declared.kind.LimitKind.TheVariants.{Classes, References, Predicates, Scopes, Parameters, Clauses, Literals, Variables, Objects, Assertions}
 use Rattle.rf_resolve.specs.declared.error.NameError.{NameError}
 use Rattle.rf_resolve.specs.declared.error.NameError.TheVariants.{Twice, Unknown, Ambiguous, ClassCycle, BadOpposite, BadContainer, BadRange, Arity, LooseVariable, Recursive, EqualsTwo, Limit, Memory as NoSpace}
 use Rattle.rf_source.specs.declared.error.SourceError.{SourceError}

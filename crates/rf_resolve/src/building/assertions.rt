@@ -1,12 +1,10 @@
 //! The assertions of a problem.
 
 ghost use Rattle.std.specs.Prelude.{◌≡◌, IfOk, map};
-ghost use Rattle.rf_resolve.specs.LookUp.{class_named, new_object_of};
-ghost use Rattle.rf_resolve.specs.Resolved.{object_or_new, resolved_arg, resolved_assertion, the_number, the_symbol};
+ghost use Rattle.rf_names.specs.LookUp.{class_named, new_object_of, the_number, the_symbol};
+ghost use Rattle.rf_resolve.specs.Resolved.{object_or_new, resolved_arg, resolved_assertion};
 
-use crate::Sense;
-use crate::forms::AssertForm;
-use crate::names::Names;
+use rf_names::{AssertForm, Names, Sense};
 use rf_problem::{Assertion, Symbol};
 use rf_syntax::{Arg, Name};
 use rf_text::Items;

@@ -1,11 +1,10 @@
 //! The classes of a problem.
 
 ghost use Rattle.std.specs.Prelude.{◌≡◌, IfOk, map};
-ghost use Rattle.rf_resolve.specs.LookUp.{class_named};
-ghost use Rattle.rf_resolve.specs.Resolved.{resolved_class, the_number};
+ghost use Rattle.rf_names.specs.LookUp.{class_named, the_number};
+ghost use Rattle.rf_resolve.specs.Resolved.{resolved_class};
 
-use crate::forms::ClassForm;
-use crate::names::Names;
+use rf_names::{ClassForm, Names};
 use rf_problem::Class;
 use rf_syntax::Name;
 use rf_text::Items;

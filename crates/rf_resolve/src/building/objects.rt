@@ -3,11 +3,11 @@
 ghost use Rattle.std.specs.Prelude.{◌≡◌, ◌≤◌, ◌++◌, IfOk, length, map};
 ghost use Rattle.rf_problem.specs.Valid.{concrete_numbers, new_object};
 ghost use Rattle.std.specs.Option.{option_map};
-ghost use Rattle.rf_resolve.specs.LookUp.{named_objects};
+ghost use Rattle.rf_names.specs.LookUp.{named_objects};
 ghost use Rattle.rf_resolve.specs.Resolved.{count_of_item, resolved_object};
 
 use crate::building::multiplicity::count_or_any;
-use crate::names::Names;
+use rf_names::Names;
 use rf_problem::{Class, ObjectDecl, ObjectName, new_objects};
 use rf_syntax::{Item, Name};
 use rf_values::Count;

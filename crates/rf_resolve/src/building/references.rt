@@ -1,26 +1,13 @@
 //! The references of a problem.
 
 ghost use Rattle.std.specs.Prelude.{◌≡◌, ◌<◌, ◌^◌, All, IfOk, map};
-ghost use Rattle.rf_resolve.specs.Resolved.{kind_of_word, resolved_reference};
+ghost use Rattle.rf_resolve.specs.Resolved.{resolved_reference};
 
 use crate::building::classes::class_number;
 use crate::building::multiplicity::count_of_mult;
-use crate::forms::ReferenceForm;
-use crate::names::Names;
-use crate::opposites::opposite;
-use rf_problem::{RefKind, Reference};
-use rf_syntax::FeatureWord;
+use rf_names::{Names, ReferenceForm, kind_of, opposite};
+use rf_problem::Reference;
 use std::alloc::{AllocError, Global};
-
-fn kind_of_word(word: Option<FeatureWord>) -> RefKind
-    ensures { result ≡ kind_of_word word }
-{
-    match word {
-        None | Some(FeatureWord::Refers) => RefKind::Plain,
-        Some(FeatureWord::Contains) => RefKind::Contains,
-        Some(FeatureWord::Container) => RefKind::Container,
-    }
-}
 
 fn resolved_reference(
     alloc: Global,
@@ -35,7 +22,7 @@ fn resolved_reference(
     let opposite = opposite(alloc, names, form)?;
     Ok(Reference {
         name,
-        kind: kind_of_word(form.feature.word),
+        kind: kind_of(form.feature.word),
         source: form.source as u32,
         target: class_number(names, &form.feature.target),
         range: count_of_mult(form.feature.mult),

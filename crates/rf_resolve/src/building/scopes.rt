@@ -4,7 +4,7 @@ ghost use Rattle.std.specs.Prelude.{◌≡◌, IfOk, map};
 ghost use Rattle.rf_resolve.specs.Resolved.{resolved_scope};
 
 use crate::building::multiplicity::count_of_range;
-use crate::names::Names;
+use rf_names::Names;
 use rf_problem::Scope;
 use rf_syntax::Bound;
 use std::alloc::{AllocError, Global};

@@ -1,5 +1,5 @@
 use Rattle.std.proofs.Common.{◌≡◌, ◌∙◌, ap}
-use Rattle.rf_resolve.specs.Declarations.{Declared}
+use Rattle.rf_names.specs.Declarations.{Declared}
 use Rattle.rf_resolve.proofs.SmallLemmas.{small_predicates}
 use Rattle.rf_resolve.proofs.predicates.resolved_predicates.Goals as goal
 

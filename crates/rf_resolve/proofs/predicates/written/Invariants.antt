@@ -1,5 +1,5 @@
 use Rattle.std.proofs.Common.{◌≡◌, map, take}
-use Rattle.rf_resolve.specs.Bodies.{clause_names, with_variables}
+use Rattle.rf_names.specs.Bodies.{clause_names, with_variables}
 use Rattle.rf_resolve.specs.Resolved.{resolved_literals}
 use Rattle.rf_resolve.proofs.predicates.written.Given as goal
 

@@ -1,6 +1,6 @@
 use Rattle.std.proofs.Common.{◌∙◌, ◌++◌, map, ap}
 use Rattle.rf_problem.specs.Valid.{concrete_numbers, new_object}
-use Rattle.rf_resolve.specs.LookUp.{named_objects}
+use Rattle.rf_names.specs.LookUp.{named_objects}
 use Rattle.rf_resolve.specs.Resolved.{resolved_object}
 use Rattle.rf_resolve.proofs.Made.{classes_made_few, sources_small}
 use Rattle.rf_resolve.proofs.PartsFit.{parts_fit}

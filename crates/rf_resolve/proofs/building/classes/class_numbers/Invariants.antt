@@ -1,6 +1,5 @@
 use Rattle.std.proofs.Common.{◌≡◌, map, take}
-use Rattle.rf_resolve.specs.LookUp.{class_named}
-use Rattle.rf_resolve.specs.Resolved.{the_number}
+use Rattle.rf_names.specs.LookUp.{class_named, the_number}
 use Rattle.rf_resolve.proofs.building.classes.class_numbers.Given as goal
 
 abbrev pub invariant-loop-name : goal.invariant-loop-name

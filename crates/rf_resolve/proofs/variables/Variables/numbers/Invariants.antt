@@ -1,6 +1,5 @@
 use Rattle.std.proofs.Common.{◌≡◌, take}
-use Rattle.rf_resolve.specs.Bodies.{with_variables}
-use Rattle.rf_resolve.specs.Resolved.{variable_numbers}
+use Rattle.rf_names.specs.Bodies.{variable_numbers, with_variables}
 use Rattle.rf_resolve.proofs.variables.Variables.numbers.Given as goal
 
 abbrev pub invariant-loop-name : goal.invariant-loop-name

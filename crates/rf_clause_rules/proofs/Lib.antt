@@ -1,0 +1,5 @@
+pub mod CallerLemmas
+pub mod LooseLemmas
+pub mod OccurrenceLemmas
+pub mod RankedCallers
+pub mod RecursionLemmas

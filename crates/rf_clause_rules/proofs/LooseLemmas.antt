@@ -1,0 +1,192 @@
+-- The places of loose variables.
+use Rattle.std.proofs.Common.{◌≡◌, ◌<◌, ◌+◌, ◌∙◌, ℕ, suc, Bool, true, false, not, List, [], ◌∷◌, ◌++◌, length, map, filter, take, get_or, append_assoc, Option, Some, arith, refl, sym, ap, inl, inr}
+use Rattle.std.specs.Prelude.{◌==◌, ◌&&◌, ◌||◌, if◌then◌else◌}
+use Rattle.std.specs.BTreeMap.{BTreeMap, get_by}
+use Rattle.std.specs.Cmp.Lexicographic.{slice_cmp}
+use Rattle.std.specs.List.{flat_map, list_any}
+use Rattle.std.specs.Map.{update}
+use Rattle.std.specs.Option.{unwrap_or}
+use Rattle.std.specs.Ordering.{nat_cmp}
+use Rattle.std.specs.Str.{bytes_eq}
+use Rattle.std.proofs.lemmas.Bool.{cases_Bool, eq-eqb}
+use Rattle.std.proofs.lemmas.List.{append-nil, length-map, length-take-le, take_more}
+use Rattle.std.proofs.lemmas.List.Folds.{list_any-append}
+use Rattle.std.proofs.lemmas.Slice.Eq.{bytes_eq-Decides}
+use denote.Ref.{Bor}
+use Rattle.rf_syntax.specs.declared.name.Name.{Name}
+use Rattle.rf_syntax.specs.declared.predicate.BodyLiteral.{BodyLiteral}
+use Rattle.rf_syntax.specs.declared.predicate.Param.{Param}
+use Rattle.rf_names.specs.Bodies.{clause_names, is_loose, loose_variables, param_names}
+use Rattle.rf_names.specs.Declarations.{PredicateDecl}
+use Rattle.rf_names.specs.LeastPlace.{least_of, lesser, place_if, places_in_clauses}
+use Rattle.rf_names.specs.LookUp.{first_of_each, is_blank, reads}
+use Rattle.rf_clause_rules.specs.Occurrences.{behind_literal, behind_literals, is_loose_occurrence, named_among, named_in, occurrence_in, occurrence_of}
+use Rattle.rf_clause_rules.specs.declared.occurrence.Occurrence.{Occurrence}
+use Rattle.rf_clause_rules.specs.declared.occurrence.Occurrence.TheVariants.{Nowhere, Inside, Loose, Bound}
+use Rattle.rf_names.proofs.MapLemmas.{map_one_more}
+use Rattle.rf_names.proofs.LeastPlaces.{least_of_append}
+use Rattle.rf_clause_rules.proofs.OccurrenceLemmas.{loose_occurrence}
+
+-- to name it twice in one literal says no more
+named_twice : (k : ℕ) (negated : Bool) (o : Occurrence) → named_in k negated (named_in k negated o)
+    ≡ named_in k negated o
+named_twice k false o = refl
+named_twice k true Nowhere = let same : (k == k) ≡ true = eq-eqb k k refl in rw same refl
+named_twice k true (Inside j) =
+    elim (cases_Bool (j == k)) [ inl e ↦ rw (e, e) refl | inr e ↦ rw e refl ]
+named_twice k true Loose = refl
+named_twice k true Bound = refl
+
+-- the one name that is added
+pub name_added : (old new : BTreeMap (Bor (List ℕ)) Occurrence) (k : ℕ) (negated : Bool)
+    (name : Name) (key text : List ℕ) (o w : Occurrence) →
+    key ≡ name.text → o ≡ occurrence_in old key → w ≡ named_in k negated o →
+    get_by (λ s. slice_cmp nat_cmp text s.now) new
+    ≡ update bytes_eq (λ ds. get_by (λ s. slice_cmp nat_cmp ds s.now) old) key (Some w) text →
+    occurrence_in new text ≡ (if reads text name then named_in k negated (occurrence_in old text)
+    else occurrence_in old text)
+name_added old new k negated name key text o w is was now updated =
+    elim (cases_Bool (bytes_eq key text)) [
+      | inl same ↦ (let hit : reads text name ≡ true = ap (λ t. bytes_eq t text) (sym is) ∙ same in
+          let here : occurrence_in new text ≡ w = ap (λ v. unwrap_or v Nowhere) updated
+          ∙ rw same refl in
+          let before : o ≡ occurrence_in old text =
+          was ∙ ap (occurrence_in old) ((bytes_eq-Decides key text).0 same) in
+          here ∙ now ∙ ap (named_in k negated) before
+          ∙ ap (λ b. if b then named_in k negated (occurrence_in old text)
+          else occurrence_in old text) (sym hit))
+      | inr apart ↦ (let miss : reads text name ≡ false = ap (λ t. bytes_eq t text) (sym is) ∙ apart in
+          let here : occurrence_in new text ≡ occurrence_in old text =
+          ap (λ v. unwrap_or v Nowhere) updated ∙ rw apart refl in
+          here ∙ ap (λ b. if b then named_in k negated (occurrence_in old text)
+          else occurrence_in old text) (sym miss))
+    ]
+
+-- one name more
+named_or : (k : ℕ) (negated : Bool) (o : Occurrence) (a b : Bool) →
+    (if a || (b || false) then named_in k negated o else o)
+    ≡ (if b then named_in k negated (if a then named_in k negated o else o)
+    else (if a then named_in k negated o else o))
+named_or k negated o true true = sym (named_twice k negated o)
+named_or k negated o true false = refl
+named_or k negated o false true = refl
+named_or k negated o false false = refl
+
+named_snoc : (k : ℕ) (negated : Bool) (names : List Name) (name : Name) (text : List ℕ)
+    (o : Occurrence) →
+    named_among k negated (names ++ name ∷ []) text o
+    ≡ (if reads text name then named_in k negated (named_among k negated names text o)
+    else named_among k negated names text o)
+named_snoc k negated names name text o =
+    ap (λ b. if b then named_in k negated o else o) (list_any-append (reads text) names (name ∷ []))
+    ∙ named_or k negated o (list_any (reads text) names) (reads text name)
+
+pub named_more : (k : ℕ) (negated : Bool) (names : List Name) (i : ℕ) (name : Name) (text : List ℕ)
+    (o now new : Occurrence) →
+    i < length names → name ≡ get_or names i name →
+    now ≡ named_among k negated (take i names) text o →
+    new ≡ (if reads text name then named_in k negated now else now) →
+    new ≡ named_among k negated (take (i + 1) names) text o
+named_more k negated names i name text o now new below is before step =
+    step ∙ ap (λ p. if reads text name then named_in k negated p else p) before
+    ∙ ap (λ n. if reads text n
+    then named_in k negated (named_among k negated (take i names) text o)
+    else named_among k negated (take i names) text o) is
+    ∙ sym (named_snoc k negated (take i names) (get_or names i name) text o)
+    ∙ ap (λ ns. named_among k negated ns text o) (sym (take_more names i name below))
+
+pub param_more : (k : ℕ) (negated : Bool) (params : List Param) (i : ℕ) (param : Param)
+    (text : List ℕ) (o now new : Occurrence) →
+    i < length params → param ≡ get_or params i param →
+    now ≡ named_among k negated (param_names (take i params)) text o →
+    new ≡ (if reads text param.name then named_in k negated now else now) →
+    new ≡ named_among k negated (param_names (take (i + 1) params)) text o
+param_more k negated params i param text o now new below is before step =
+    step ∙ ap (λ p. if reads text param.name then named_in k negated p else p) before
+    ∙ sym (named_snoc k negated (param_names (take i params)) param.name text o)
+    ∙ ap (λ ns. named_among k negated ns text o)
+    (sym (map_one_more (λ (p : Param). p.name) params i param below is))
+
+pub named_both : (k : ℕ) (negated : Bool) (a b : Name) (text : List ℕ)
+    (o first second : Occurrence) →
+    first ≡ (if reads text a then named_in k negated o else o) →
+    second ≡ (if reads text b then named_in k negated first else first) →
+    second ≡ named_among k negated (a ∷ b ∷ []) text o
+named_both k negated a b text o first second one two =
+    two ∙ ap (λ p. if reads text b then named_in k negated p else p) one
+    ∙ sym (named_or k negated o (reads text a) (reads text b))
+
+-- one literal more
+behind_snoc : (k m : ℕ) (ls : List BodyLiteral) (l : BodyLiteral) (text : List ℕ) (o : Occurrence)
+    → m ≡ k + length ls →
+    behind_literals k (ls ++ l ∷ []) text o ≡ behind_literal m l text (behind_literals k ls text o)
+behind_snoc k m [] l text o e = let same : k ≡ m = omega arith in
+    ap (λ n. behind_literal n l text o) same
+behind_snoc k m (x ∷ ls) l text o e = behind_snoc (suc k) m ls l text (behind_literal k x text o)
+    (omega arith)
+
+pub behind_more : {X : Type 0} (f : X → BodyLiteral) (xs : List X) (i : ℕ) (x : X) (text : List ℕ)
+    (o now new : Occurrence) →
+    i < length xs → x ≡ get_or xs i x → now ≡ behind_literals 0 (map f (take i xs)) text o →
+    new ≡ behind_literal i (f x) text now → new ≡ behind_literals 0 (map f (take (i + 1) xs)) text o
+behind_more f xs i x text o now new below is before step =
+    let long : length (map f (take i xs)) ≡ length (take i xs) = length-map (take i xs) f in
+    let short : length (take i xs) ≡ i = length-take-le i xs (omega arith) in
+    step ∙ ap (behind_literal i (f x) text) before
+    ∙ sym (behind_snoc 0 i (map f (take i xs)) (f x) text o (omega arith))
+    ∙ ap (λ ls. behind_literals 0 ls text o) (sym (map_one_more f xs i x below is))
+
+-- the places of those that are kept
+kept_places : (p q : Name → Bool) → ((n : Name) → p n ≡ q n) → (ns : List Name) →
+    flat_map (λ n. place_if (p n) n.at) ns ≡ map (λ v. v.at) (filter q ns)
+kept_places p q same [] = refl
+kept_places p q same (n ∷ ns) =
+    let rest = kept_places p q same ns in
+    elim (cases_Bool (q n)) [
+      | inl e ↦ (let here : p n ≡ true = same n ∙ e in rw (here, e) (ap (λ ats. n.at ∷ ats) rest))
+      | inr e ↦ (let here : p n ≡ false = same n ∙ e in rw (here, e) rest)
+    ]
+
+pub loose_least : (params : List Param) (clause : List BodyLiteral)
+    (occurrences : BTreeMap (Bor (List ℕ)) Occurrence) (firsts : List Name) →
+    ((text : List ℕ) → occurrence_in occurrences text ≡ occurrence_of params clause text) →
+    firsts ≡ first_of_each [] (clause_names clause) →
+    least_of (flat_map (λ n. place_if (not (is_blank n)
+    && is_loose_occurrence (occurrence_in occurrences n.text)) n.at) firsts)
+    ≡ least_of (map (λ v. v.at) (loose_variables params clause))
+loose_least params clause occurrences firsts each are =
+    let same : (n : Name) → (not (is_blank n)
+    && is_loose_occurrence (occurrence_in occurrences n.text)) ≡ is_loose params clause n =
+    λ n. ap (λ o. not (is_blank n) && is_loose_occurrence o) (each n.text)
+    ∙ ap (λ b. not (is_blank n) && b) (loose_occurrence n.text params clause) in
+    ap least_of (kept_places (λ n. not (is_blank n)
+    && is_loose_occurrence (occurrence_in occurrences n.text))
+    (is_loose params clause) same firsts)
+    ∙ ap (λ ns. least_of (map (λ v. v.at) (filter (is_loose params clause) ns))) are
+
+-- the places in one predicate more
+places_snoc : (f : ℕ → List Param → List BodyLiteral → List ℕ) (n m : ℕ) (ps : List PredicateDecl)
+    (p : PredicateDecl) → m ≡ n + length ps →
+    places_in_clauses f n (ps ++ p ∷ []) ≡ places_in_clauses f n ps
+    ++ flat_map (f m p.params) p.clauses
+places_snoc f n m [] p is = let e : m ≡ n = omega arith in
+    rw e (append-nil (flat_map (f n p.params) p.clauses))
+places_snoc f n m (q ∷ ps) p is =
+    let e : m ≡ suc n + length ps = omega arith in
+    ap (λ rest. flat_map (f n q.params) q.clauses ++ rest) (places_snoc f (suc n) m ps p e)
+    ∙ sym (append_assoc (flat_map (f n q.params) q.clauses) (places_in_clauses f (suc n) ps)
+    (flat_map (f m p.params) p.clauses))
+
+pub places_more : (f : ℕ → List Param → List BodyLiteral → List ℕ) (ps : List PredicateDecl)
+    (i : ℕ) (p : PredicateDecl) (least more : Option ℕ) →
+    i < length ps → p ≡ get_or ps i p → least ≡ least_of (places_in_clauses f 0 (take i ps)) →
+    more ≡ least_of (flat_map (f i p.params) p.clauses) →
+    lesser least more ≡ least_of (places_in_clauses f 0 (take (i + 1) ps))
+places_more f ps i p least more below is before here =
+    let short = length-take-le i ps (omega arith) in
+    let at : i ≡ 0 + length (take i ps) = omega arith in
+    ap (λ a. lesser a more) before ∙ ap (lesser (least_of (places_in_clauses f 0 (take i ps)))) here
+    ∙ sym (least_of_append (places_in_clauses f 0 (take i ps)) (flat_map (f i p.params) p.clauses))
+    ∙ ap least_of (sym (places_snoc f 0 i (take i ps) p at)
+    ∙ ap (λ q. places_in_clauses f 0 (take i ps ++ q ∷ [])) is)
+    ∙ ap (λ qs. least_of (places_in_clauses f 0 qs)) (sym (take_more ps i p below))

@@ -1,0 +1,4 @@
+pub mod JoinedPlaces
+pub mod LiteralPlaces
+pub mod NumberedPlaces
+pub mod RepeatedNames

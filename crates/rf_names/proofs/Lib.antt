@@ -1,0 +1,11 @@
+pub mod FirstLemmas
+pub mod FoundLemmas
+pub mod LeastPlaces
+pub mod ListedLemmas
+pub mod MapLemmas
+pub mod NamedLemmas
+pub mod NumberLemmas
+pub mod RankLemmas
+pub mod References
+pub mod SuperLemmas
+pub mod VariableLemmas

@@ -1,0 +1,5 @@
+use Rattle.std.proofs.Common.{◌≡◌, map, take}
+use Rattle.rf_names.proofs.numbering.Numbering.of.Given as goal
+
+abbrev pub invariant-loop-name : goal.invariant-loop-name
+invariant-loop-name l = map (λ n. n.now) l.numbering.names.items ≡ map (λ n. n.now) (take l.name-index l.names)

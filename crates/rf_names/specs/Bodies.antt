@@ -1,0 +1,108 @@
+-- The variables of clauses, and what clauses call.
+use Rattle.std.specs.Prelude.{List, map, [], ◌∷◌, Bool, false, ◌&&◌, not, ◌++◌, if◌then◌else◌, ℕ, ◌||◌, nat_lt, count_by, filter, Option, None, Some, true, length, ◌==◌, position}
+use Rattle.std.specs.List.{flat_map, list_any, list_all}
+use Rattle.rf_syntax.specs.declared.name.Name.{Name}
+use Rattle.rf_syntax.specs.declared.predicate.Param.{Param}
+use Rattle.rf_syntax.specs.declared.predicate.BodyLiteral.{BodyLiteral}
+use Rattle.rf_syntax.specs.declared.predicate.BodyLiteral.TheVariants.{Call, Same, Differ}
+use Rattle.rf_problem.specs.declared.symbol.Symbol.TheVariants.{Predicate as Defined}
+use Rattle.rf_finite.specs.Walks.{walk_below}
+use Rattle.rf_names.specs.LookUp.{is_blank, reads, first_of_each, literal_symbols, sense_of, predicate_decl_at, is_number, the_number}
+use Rattle.rf_names.specs.declared.sense.Sense.{Sense}
+use Rattle.rf_names.specs.declared.sense.Sense.TheVariants.{One}
+use Rattle.rf_names.specs.Declarations.{Declared}
+
+-- the names of the parameters
+abbrev pub param_names : List Param → List Name
+param_names params = map (λ p. p.name) params
+
+-- the variables that a literal names, in order
+abbrev pub literal_names : BodyLiteral → List Name
+literal_names (Call negated symbol closure args) = args
+literal_names (Same a b) = a ∷ b ∷ []
+literal_names (Differ a b) = a ∷ b ∷ []
+
+-- those that a clause names
+abbrev pub clause_names : List BodyLiteral → List Name
+clause_names clause = flat_map literal_names clause
+
+-- whether a `!` stands in front; comparisons have none
+abbrev pub is_negated : BodyLiteral → Bool
+is_negated (Call negated symbol closure args) = negated
+is_negated (Same a b) = false
+is_negated (Differ a b) = false
+
+-- the first name in a literal, and in a clause
+abbrev pub first_name : BodyLiteral → Name
+first_name (Call negated symbol closure args) = symbol.name
+first_name (Same a b) = a
+first_name (Differ a b) = a
+
+-- whether a name stands for one of these variables: it is the name of one, and no `_`
+abbrev pub is_variable_of : List Name → Name → Bool
+is_variable_of known name = not (is_blank name) && list_any (reads name.text) known
+
+-- the variables after a name: each `_` is one of its own, and so is a name at its first place
+abbrev pub with_variable : List Name → Name → List Name
+with_variable known name = if is_variable_of known name then known else known ++ name ∷ []
+
+-- the variables after these names
+abbrev pub with_variables : List Name → List Name → List Name
+with_variables known [] = known
+with_variables known (n ∷ ns) = with_variables (with_variable known n) ns
+
+-- the variables of a clause, each by its first name: the parameters, then the others in the order in
+-- which they occur first
+abbrev pub clause_variables : List Param → List BodyLiteral → List Name
+clause_variables params clause = with_variables (param_names params) (clause_names clause)
+
+-- whether a literal names the variable of this name
+abbrev pub names_variable : List ℕ → BodyLiteral → Bool
+names_variable text literal = list_any (reads text) (literal_names literal)
+
+-- whether a name is that of a variable that can't be quantified: it is no parameter, each literal that
+-- names it is negated, and there are several of them
+abbrev pub is_loose : List Param → List BodyLiteral → Name → Bool
+is_loose params clause name =
+    not (is_blank name)
+    && (not (list_any (reads name.text) (param_names params))
+    && (list_all (λ l. not (names_variable name.text l) || is_negated l) clause
+    && nat_lt 1 (count_by (names_variable name.text) clause)))
+
+-- such variables, each by its first name
+abbrev pub loose_variables : List Param → List BodyLiteral → List Name
+loose_variables params clause = filter (is_loose params clause) (first_of_each [] (clause_names clause))
+
+-- the predicate that a symbol stands for, where it is one
+abbrev pub predicate_of : Sense → Option ℕ
+predicate_of (One (Defined q)) = Some q
+predicate_of _ = None
+
+-- the predicate that a literal calls
+abbrev pub called_by : Declared → BodyLiteral → Option ℕ
+called_by d (Call negated symbol closure args) = predicate_of (sense_of (literal_symbols d symbol))
+called_by d (Same a b) = None
+called_by d (Differ a b) = None
+
+-- whether a literal of predicate p calls predicate q
+abbrev pub calls_directly : Declared → ℕ → ℕ → Bool
+calls_directly d p q =
+    list_any (λ clause. list_any (λ l. is_number q (called_by d l)) clause) (predicate_decl_at d p).clauses
+
+-- whether p is called by q, directly or through others: a walk leads from p over callers to q
+abbrev pub is_called_from : Declared → ℕ → ℕ → Bool
+is_called_from d p q = walk_below (λ x y. calls_directly d y x) (λ x. true) (length d.predicates) p q
+
+-- whether calls lead from predicate q to predicate p, or the two are the same
+abbrev pub leads_to : Declared → ℕ → ℕ → Bool
+leads_to d q p = (q == p) || is_called_from d p q
+
+-- the number of the variable that a name stands for, behind these variables
+abbrev pub variable_number : List Name → Name → ℕ
+variable_number known name =
+    if is_variable_of known name then the_number (position (reads name.text) known) else length known
+
+-- the numbers of the variables that names stand for, one after another
+abbrev pub variable_numbers : List Name → List Name → List ℕ
+variable_numbers known [] = []
+variable_numbers known (n ∷ ns) = variable_number known n ∷ variable_numbers (with_variable known n) ns

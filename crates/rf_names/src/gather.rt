@@ -1,0 +1,426 @@
+//! The lists of what statements declare and state, each in the order of the text.
+
+ghost use Rattle.std.specs.Prelude.{◌≡◌, ◌∷◌, ◌++◌, [], IfOk, OnOk, map};
+ghost use Rattle.std.specs.List.{flat_map};
+ghost use Rattle.rf_names.specs.Declarations.{asserted_atom, asserted_truth, assertions_in, bounds_in, classes_in, features_or_none, is_error_word, items_in, items_of, items_or_none, mentions_in, names_in, object_alone, object_in, predicates_in, references_of, truth_of};
+
+use crate::forms::{AssertForm, ClassForm, ClauseForm, PredicateForm, ReferenceForm};
+use rf_syntax::{
+    Arg, AssertionForm, AtomForm, BodyLiteral, Bound, Feature, Item, List, Name, PredicateWord,
+    Statement, ValueWord,
+};
+use rf_text::Items;
+use rf_values::Truth;
+use std::alloc::{AllocError, Global};
+
+// Parts of statements.
+
+/// Appends each item, lent.
+pub fn push_all<'a, T>(out: &mut Vec<&'a T>, items: &'a [T]) -> Result<(), AllocError>
+    ensures { OnOk result (map (λ i. i.now) out.new.items ≡ map (λ i. i.now) out.old.items
+        ++ items.now) }
+{
+    for item in items {
+        out.push(item)?;
+    }
+    Ok(())
+}
+
+fn push_list<'a, T>(out: &mut Vec<&'a T>, list: &'a List<T>) -> Result<(), AllocError>
+    ensures { OnOk result (map (λ i. i.now) out.new.items ≡ map (λ i. i.now) out.old.items
+        ++ items_of list.now) }
+{
+    out.push(&list.first)?;
+    push_all(out, list.rest.as_slice())
+}
+
+fn push_item_names<'a>(out: &mut Vec<&'a Name>, items: &'a [Item]) -> Result<(), AllocError>
+    ensures { OnOk result (map (λ n. n.now) out.new.items ≡ map (λ n. n.now) out.old.items
+        ++ map (λ i. i.name) items.now) }
+{
+    for item in items {
+        out.push(&item.name)?;
+    }
+    Ok(())
+}
+
+fn push_names_of_items<'a>(out: &mut Vec<&'a Name>, list: &'a List<Item>) -> Result<(), AllocError>
+    ensures { OnOk result (map (λ n. n.now) out.new.items ≡ map (λ n. n.now) out.old.items
+        ++ map (λ i. i.name) (items_of list.now)) }
+{
+    out.push(&list.first.name)?;
+    push_item_names(out, list.rest.as_slice())
+}
+
+// The names behind `extends`, which may be left out.
+fn supers_of<'a>(alloc: Global, supers: &'a Option<List<Name>>) -> Result<Vec<&'a Name>, AllocError>
+    ensures { IfOk result (λ v. map (λ n. n.now) v.items ≡ items_or_none supers.now) }
+{
+    let mut names = Vec::new(alloc);
+    if let Some(list) = supers {
+        push_list(&mut names, list)?;
+    }
+    Ok(names)
+}
+
+fn features_of(body: &Option<Items<Feature>>) -> &[Feature]
+    ensures { result.now ≡ features_or_none body.now }
+{
+    match body {
+        Some(features) => features.as_slice(),
+        None => &[],
+    }
+}
+
+fn clause_of<'a>(alloc: Global, list: &'a List<BodyLiteral>) -> Result<ClauseForm<'a>, AllocError>
+    ensures { IfOk result (λ c. c ≡ items_of list.now) }
+{
+    let mut literals = Vec::new(alloc);
+    push_list(&mut literals, list)?;
+    Ok(ClauseForm { literals })
+}
+
+fn push_clauses<'a>(
+    alloc: Global,
+    out: &mut Vec<ClauseForm<'a>>,
+    clauses: &'a [List<BodyLiteral>],
+) -> Result<(), AllocError>
+    ensures { OnOk result (out.new.items ≡ out.old.items ++ map items_of clauses.now) }
+{
+    for list in clauses {
+        out.push(clause_of(alloc, list)?)?;
+    }
+    Ok(())
+}
+
+fn clauses_of<'a>(
+    alloc: Global,
+    clauses: &'a List<List<BodyLiteral>>,
+) -> Result<Vec<ClauseForm<'a>>, AllocError>
+    ensures { IfOk result (λ v. v.items ≡ map items_of (items_of clauses.now)) }
+{
+    let mut forms = Vec::new(alloc);
+    forms.push(clause_of(alloc, &clauses.first)?)?;
+    push_clauses(alloc, &mut forms, clauses.rest.as_slice())?;
+    Ok(forms)
+}
+
+fn is_error(word: PredicateWord) -> bool
+    ensures { result ≡ is_error_word word }
+{
+    match word {
+        PredicateWord::Pred => false,
+        PredicateWord::Error | PredicateWord::ErrorPred => true,
+    }
+}
+
+fn truth_of(word: ValueWord) -> Truth
+    ensures { result ≡ truth_of word }
+{
+    match word {
+        ValueWord::True => Truth::True,
+        ValueWord::False => Truth::False,
+        ValueWord::Unknown => Truth::Unknown,
+        ValueWord::Error => Truth::Error,
+    }
+}
+
+fn atom_of(assertion: &AssertionForm) -> &AtomForm
+    ensures { result.now ≡ asserted_atom assertion.now }
+{
+    match assertion {
+        AssertionForm::Plain(atom) => atom,
+        AssertionForm::Not(atom) => atom,
+        AssertionForm::Maybe(atom) => atom,
+        AssertionForm::Valued(atom, _) => atom,
+    }
+}
+
+fn asserted(assertion: &AssertionForm) -> Truth
+    ensures { result ≡ asserted_truth assertion.now }
+{
+    match assertion {
+        AssertionForm::Plain(_) => Truth::True,
+        AssertionForm::Not(_) => Truth::False,
+        AssertionForm::Maybe(_) => Truth::Unknown,
+        AssertionForm::Valued(_, word) => truth_of(*word),
+    }
+}
+
+fn push_object<'a>(out: &mut Vec<&'a Name>, arg: &'a Arg) -> Result<(), AllocError>
+    ensures { OnOk result (map (λ n. n.now) out.new.items ≡ map (λ n. n.now) out.old.items
+        ++ object_in arg.now) }
+{
+    if let Arg::Symbol(symbol) = arg {
+        if symbol.member.is_none() {
+            out.push(&symbol.name)?;
+        }
+    }
+    Ok(())
+}
+
+fn push_objects<'a>(out: &mut Vec<&'a Name>, args: &'a [Arg]) -> Result<(), AllocError>
+    ensures { OnOk result (map (λ n. n.now) out.new.items ≡ map (λ n. n.now) out.old.items
+        ++ flat_map object_in args.now) }
+{
+    for arg in args {
+        push_object(out, arg)?;
+    }
+    Ok(())
+}
+
+// What one statement adds to each list.
+
+fn push_names<'a>(out: &mut Vec<&'a Name>, statement: &'a Statement) -> Result<(), AllocError>
+    ensures { OnOk result (map (λ n. n.now) out.new.items ≡ map (λ n. n.now) out.old.items
+        ++ names_in statement.now) }
+{
+    match statement {
+        Statement::Class { name, .. } => out.push(name)?,
+        Statement::Predicate { name, .. } => out.push(name)?,
+        Statement::Declare(names) => push_list(out, names)?,
+        Statement::Multi(items) => push_names_of_items(out, items)?,
+        Statement::Scope(_) => {}
+        Statement::Assert { .. } => {}
+    }
+    Ok(())
+}
+
+fn push_class<'a>(
+    alloc: Global,
+    out: &mut Vec<ClassForm<'a>>,
+    statement: &'a Statement,
+) -> Result<(), AllocError>
+    ensures { OnOk result (out.new.items ≡ out.old.items ++ classes_in statement.now) }
+{
+    if let Statement::Class {
+        is_abstract,
+        name,
+        supers,
+        body,
+    } = statement
+    {
+        out.push(ClassForm {
+            name,
+            is_abstract: *is_abstract,
+            supers: supers_of(alloc, supers)?,
+            features: features_of(body),
+        })?;
+    }
+    Ok(())
+}
+
+fn push_predicate<'a>(
+    alloc: Global,
+    out: &mut Vec<PredicateForm<'a>>,
+    statement: &'a Statement,
+) -> Result<(), AllocError>
+    ensures { OnOk result (out.new.items ≡ out.old.items ++ predicates_in statement.now) }
+{
+    if let Statement::Predicate {
+        start,
+        name,
+        params,
+        clauses,
+    } = statement
+    {
+        out.push(PredicateForm {
+            is_error: is_error(*start),
+            name,
+            params: params.as_slice(),
+            clauses: clauses_of(alloc, clauses)?,
+        })?;
+    }
+    Ok(())
+}
+
+fn push_items<'a>(out: &mut Vec<&'a Item>, statement: &'a Statement) -> Result<(), AllocError>
+    ensures { OnOk result (map (λ i. i.now) out.new.items ≡ map (λ i. i.now) out.old.items
+        ++ items_in statement.now) }
+{
+    if let Statement::Multi(items) = statement {
+        push_list(out, items)?;
+    }
+    Ok(())
+}
+
+fn push_bounds<'a>(out: &mut Vec<&'a Bound>, statement: &'a Statement) -> Result<(), AllocError>
+    ensures { OnOk result (map (λ b. b.now) out.new.items ≡ map (λ b. b.now) out.old.items
+        ++ bounds_in statement.now) }
+{
+    if let Statement::Scope(bounds) = statement {
+        push_list(out, bounds)?;
+    }
+    Ok(())
+}
+
+fn push_assertion<'a>(
+    out: &mut Vec<AssertForm<'a>>,
+    statement: &'a Statement,
+) -> Result<(), AllocError>
+    ensures { OnOk result (out.new.items ≡ out.old.items ++ assertions_in statement.now) }
+{
+    if let Statement::Assert {
+        is_default,
+        assertion,
+    } = statement
+    {
+        out.push(AssertForm {
+            is_default: *is_default,
+            atom: atom_of(assertion),
+            value: asserted(assertion),
+        })?;
+    }
+    Ok(())
+}
+
+fn push_mentions<'a>(out: &mut Vec<&'a Name>, statement: &'a Statement) -> Result<(), AllocError>
+    ensures { OnOk result (map (λ n. n.now) out.new.items ≡ map (λ n. n.now) out.old.items
+        ++ mentions_in statement.now) }
+{
+    match statement {
+        Statement::Declare(names) => push_list(out, names)?,
+        Statement::Multi(items) => push_names_of_items(out, items)?,
+        Statement::Assert { assertion, .. } => {
+            push_objects(out, atom_of(assertion).args.as_slice())?
+        }
+        Statement::Class { .. } => {}
+        Statement::Predicate { .. } => {}
+        Statement::Scope(_) => {}
+    }
+    Ok(())
+}
+
+// The lists.
+
+/// The names declared in the space of classes, predicates and objects.
+pub fn names_of<'a>(alloc: Global, statements: &'a [Statement]) -> Result<Vec<&'a Name>, AllocError>
+    ensures { IfOk result (λ v. map (λ n. n.now) v.items ≡ flat_map names_in statements.now) }
+{
+    let mut names = Vec::new(alloc);
+    for statement in statements {
+        push_names(&mut names, statement)?;
+    }
+    Ok(names)
+}
+
+/// The classes.
+pub fn classes_of<'a>(
+    alloc: Global,
+    statements: &'a [Statement],
+) -> Result<Vec<ClassForm<'a>>, AllocError>
+    ensures { IfOk result (λ v. v.items ≡ flat_map classes_in statements.now) }
+{
+    let mut classes = Vec::new(alloc);
+    for statement in statements {
+        push_class(alloc, &mut classes, statement)?;
+    }
+    Ok(classes)
+}
+
+/// The predicates.
+pub fn predicates_of<'a>(
+    alloc: Global,
+    statements: &'a [Statement],
+) -> Result<Vec<PredicateForm<'a>>, AllocError>
+    ensures { IfOk result (λ v. v.items ≡ flat_map predicates_in statements.now) }
+{
+    let mut predicates = Vec::new(alloc);
+    for statement in statements {
+        push_predicate(alloc, &mut predicates, statement)?;
+    }
+    Ok(predicates)
+}
+
+/// The items of `multi`.
+pub fn items_of<'a>(alloc: Global, statements: &'a [Statement]) -> Result<Vec<&'a Item>, AllocError>
+    ensures { IfOk result (λ v. map (λ i. i.now) v.items ≡ flat_map items_in statements.now) }
+{
+    let mut items = Vec::new(alloc);
+    for statement in statements {
+        push_items(&mut items, statement)?;
+    }
+    Ok(items)
+}
+
+/// The bounds of `scope`.
+pub fn bounds_of<'a>(
+    alloc: Global,
+    statements: &'a [Statement],
+) -> Result<Vec<&'a Bound>, AllocError>
+    ensures { IfOk result (λ v. map (λ b. b.now) v.items ≡ flat_map bounds_in statements.now) }
+{
+    let mut bounds = Vec::new(alloc);
+    for statement in statements {
+        push_bounds(&mut bounds, statement)?;
+    }
+    Ok(bounds)
+}
+
+/// The assertions.
+pub fn assertions_of<'a>(
+    alloc: Global,
+    statements: &'a [Statement],
+) -> Result<Vec<AssertForm<'a>>, AllocError>
+    ensures { IfOk result (λ v. v.items ≡ flat_map assertions_in statements.now) }
+{
+    let mut assertions = Vec::new(alloc);
+    for statement in statements {
+        push_assertion(&mut assertions, statement)?;
+    }
+    Ok(assertions)
+}
+
+/// The names at which the text speaks of named objects.
+pub fn mentions_of<'a>(
+    alloc: Global,
+    statements: &'a [Statement],
+) -> Result<Vec<&'a Name>, AllocError>
+    ensures { IfOk result (λ v. map (λ n. n.now) v.items ≡ flat_map mentions_in statements.now) }
+{
+    let mut mentions = Vec::new(alloc);
+    for statement in statements {
+        push_mentions(&mut mentions, statement)?;
+    }
+    Ok(mentions)
+}
+
+// The references of the class of this number.
+fn push_references<'a>(
+    out: &mut Vec<ReferenceForm<'a>>,
+    source: u64,
+    features: &'a [Feature],
+) -> Result<(), AllocError>
+    ensures { OnOk result (out.new.items ≡ out.old.items
+        ++ map (λ f. record { source = source; feature = f }) features.now) }
+{
+    for feature in features {
+        out.push(ReferenceForm { source, feature })?;
+    }
+    Ok(())
+}
+
+fn push_class_references<'a>(
+    out: &mut Vec<ReferenceForm<'a>>,
+    source: u64,
+    class: &ClassForm<'a>,
+) -> Result<(), AllocError>
+    ensures { OnOk result (out.new.items ≡ out.old.items
+        ++ map (λ f. record { source = source; feature = f }) class.now.features) }
+{
+    push_references(out, source, class.features)
+}
+
+/// The references of the classes.
+pub fn references_of<'a>(
+    alloc: Global,
+    classes: &[ClassForm<'a>],
+) -> Result<Vec<ReferenceForm<'a>>, AllocError>
+    ensures { IfOk result (λ v. v.items ≡ references_of 0 classes.now) }
+{
+    let mut references = Vec::new(alloc);
+    for (number, class) in classes.iter().enumerate() {
+        push_class_references(&mut references, number as u64, class)?;
+    }
+    Ok(references)
+}

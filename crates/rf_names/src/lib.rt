@@ -1,0 +1,43 @@
+//! What a problem text declares, and what its names stand for.
+//!
+//! 1. What is declared. `Declarations` gathers from the statement tree what it declares and states:
+//!    classes, references, predicates, items of `multi`, bounds of `scope`, assertions, and the names
+//!    at which it speaks of objects; each list in the order of the text, lent from the tree.
+//!    (`specs/Declarations`)
+//! 2. What names stand for. `Names` keeps tables of these lists, in which the class, the predicate,
+//!    the object or the references of a name are found without a scan. (`specs/LookUp`; variables of
+//!    clauses and calls: `specs/Bodies`)
+//! 3. What has no cycle. `has_ranks` shows by ranks of places that no walk leads back to its start,
+//!    in time linear in the edges. (`specs/Ranks`)
+//!
+//! The rules that names keep are asked in the crates above, each of the places where it is broken and
+//! the least of them (`specs/LeastPlace`, `lesser` and `place_if`).
+#![tactic(auto)]
+
+mod bodies;
+mod counts;
+mod declarations;
+mod forms;
+mod gather;
+mod kind;
+mod least;
+mod listing;
+mod members;
+mod names;
+mod numbering;
+mod opposites;
+mod ranks;
+mod sense;
+mod senses;
+mod supers;
+
+pub use bodies::{is_blank, names_of_literals, names_of_params, reads};
+pub use declarations::Declarations;
+pub use forms::{AssertForm, ClassForm, ClauseForm, PredicateForm, ReferenceForm};
+pub use kind::kind_of;
+pub use least::{lesser, place_if};
+pub use names::Names;
+pub use numbering::Numbering;
+pub use opposites::{opposite, opposites_named};
+pub use ranks::has_ranks;
+pub use sense::Sense;

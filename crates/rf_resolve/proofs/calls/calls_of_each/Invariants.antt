@@ -1,7 +1,0 @@
-use Rattle.std.proofs.Common.{◌≡◌, map, take}
-use Rattle.rf_resolve.specs.Calls.{calls_of}
-use Rattle.rf_resolve.proofs.calls.calls_of_each.Given as goal
-
-abbrev pub invariant-loop-predicate : goal.invariant-loop-predicate
-invariant-loop-predicate l = map (λ list. list.items) l.lists.items
-    ≡ map (calls_of l.names.declared.now) (take l.predicate-index l.predicates)

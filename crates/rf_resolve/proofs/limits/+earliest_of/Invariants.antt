@@ -1,5 +1,0 @@
-use Rattle.std.proofs.Common.{length}
-use Rattle.rf_resolve.proofs.limits.+earliest_of.Given as goal
-
-abbrev pub decreases-earliest_of : goal.decreases-earliest_of
-decreases-earliest_of l = length l.kinds.now

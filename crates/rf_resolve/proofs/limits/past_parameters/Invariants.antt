@@ -1,9 +1,0 @@
-use Rattle.std.proofs.Common.{◌≡◌, ◌++◌, map, take}
-use Rattle.std.specs.List.{flat_map}
-use Rattle.rf_resolve.specs.Bodies.{first_name}
-use Rattle.rf_resolve.specs.Fault.{least_of}
-use Rattle.rf_resolve.specs.Limits.{clause_name, first_past}
-use Rattle.rf_resolve.proofs.limits.past_parameters.Given as goal
-
-abbrev pub invariant-loop-predicate : goal.invariant-loop-predicate
-invariant-loop-predicate l = l.least ≡ least_of (flat_map (λ p. first_past 4 (λ param. param.name) p.params) (take l.predicate-index l.predicates))

@@ -1,6 +1,0 @@
-use Rattle.std.proofs.Common.{map, take}
-use Rattle.rf_resolve.specs.Tables.{AreListed}
-use Rattle.rf_resolve.proofs.listing.numbers_by_name.Given as goal
-
-abbrev pub invariant-loop-number : goal.invariant-loop-number
-invariant-loop-number l = AreListed (map (λ r. r.feature.name) (take l.number l.references)) l.lists

@@ -1,6 +1,0 @@
-use Rattle.std.proofs.Common.{◌≡◌, ◌++◌, map, take}
-use Rattle.rf_resolve.proofs.loose.push_args.Given as goal
-
-abbrev pub invariant-loop-name : goal.invariant-loop-name
-invariant-loop-name l = map (λ n. n.now) l.names.items ≡ map (λ n. n.now) l.initial.names.items
-    ++ take l.name-index l.args

@@ -1,7 +1,0 @@
-use Rattle.std.proofs.Common.{◌≡◌, false, filter, get_or, take}
-use Rattle.rf_resolve.specs.Tables.{passes_at}
-use Rattle.rf_resolve.proofs.members.declared_above.Given as goal
-
-abbrev pub invariant-loop-reference : goal.invariant-loop-reference
-invariant-loop-reference l =
-    l.above.items ≡ filter (passes_at (λ r. get_or l.marks r.source false) l.declared.references) (take l.reference-index l.references)

@@ -1,7 +1,0 @@
-use Rattle.std.proofs.Common.{◌≡◌, ◌==◌, filter, take}
-use Rattle.rf_resolve.specs.Tables.{passes_at}
-use Rattle.rf_resolve.proofs.members.declared_by.Given as goal
-
-abbrev pub invariant-loop-reference : goal.invariant-loop-reference
-invariant-loop-reference l =
-    l.own.items ≡ filter (passes_at (λ r. r.source == l.class) l.declared.references) (take l.reference-index l.references)

@@ -1,5 +1,0 @@
-use Rattle.std.proofs.Common.{◌≡◌, map, take}
-use Rattle.rf_resolve.proofs.numbering.Numbering.of.Given as goal
-
-abbrev pub invariant-loop-name : goal.invariant-loop-name
-invariant-loop-name l = map (λ n. n.now) l.numbering.names.items ≡ map (λ n. n.now) (take l.name-index l.names)

@@ -1,8 +1,0 @@
-use Rattle.std.proofs.Common.{◌≡◌, [], map, take, filter, not}
-use Rattle.std.specs.List.{flat_map}
-use Rattle.rf_resolve.specs.Fault.{least_of}
-use Rattle.rf_resolve.specs.LookUp.{is_blank}
-use Rattle.rf_resolve.proofs.twice.names_apart.Given as goal
-
-abbrev pub invariant-loop-param : goal.invariant-loop-param
-invariant-loop-param l = map (λ n. n.now) l.names.items ≡ filter (λ n. not (is_blank n)) (map (λ p. p.name) (take l.param-index l.params))

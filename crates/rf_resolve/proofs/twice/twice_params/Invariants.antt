@@ -1,8 +1,0 @@
-use Rattle.std.proofs.Common.{◌≡◌, [], map, take, filter, not}
-use Rattle.std.specs.List.{flat_map}
-use Rattle.rf_resolve.specs.Fault.{least_of}
-use Rattle.rf_resolve.specs.Places.{params_apart, repeated}
-use Rattle.rf_resolve.proofs.twice.twice_params.Given as goal
-
-abbrev pub invariant-loop-predicate : goal.invariant-loop-predicate
-invariant-loop-predicate l = l.least ≡ least_of (flat_map (λ p. repeated [] (params_apart p)) (take l.predicate-index l.predicates))
