@@ -34,16 +34,32 @@ fn answer_check<F: Folder>(
     problem: &str,
     graph: &str,
 ) -> Result<Reply, Stop>
-    ensures ok { IfOk result (λ reply. IfSome (F.held folder.old problem.now) (λ a. IfSome (F.held folder.old graph.now) (λ b. Answers a b reply.text reply.is_yes))) }
+    ensures ok { IfOk result (λ reply.
+        IfSome (F.held folder.old problem.now) (λ a. IfSome (F.held folder.old graph.now) (λ b.
+        Answers a b reply.text reply.is_yes))) }
     ensures usage { IsErrOf result Stop.Usage → ⊥ }
-    ensures refused { IfErr result (λ stop. (r : _) → stop ≡ Stop.Refused r → RefusesTold (F.held folder.old problem.now) (F.held folder.old graph.now) r) }
-    ensures fault { IsErrOf result Stop.ReadFault → Rose (F.faults folder.old problem.now) (F.faults folder.new problem.now) ⊎ Rose (F.faults folder.old graph.now) (F.faults folder.new graph.now) }
-    ensures problem_fault { (a : _) (r : _) → F.held folder.old problem.now ≡ Some a → RefusesProblem a r → IsErrOf result Stop.ReadFault → Rose (F.faults folder.old problem.now) (F.faults folder.new problem.now) }
+    ensures refused { IfErr result (λ stop. (r : _) → stop ≡ Stop.Refused r
+        → RefusesTold (F.held folder.old problem.now) (F.held folder.old graph.now) r) }
+    ensures fault { IsErrOf result Stop.ReadFault
+        → Rose (F.faults folder.old problem.now) (F.faults folder.new problem.now)
+        ⊎ Rose (F.faults folder.old graph.now) (F.faults folder.new graph.now) }
+    ensures problem_fault { (a : _) (r : _) → F.held folder.old problem.now ≡ Some a
+        → RefusesProblem a r → IsErrOf result Stop.ReadFault
+        → Rose (F.faults folder.old problem.now) (F.faults folder.new problem.now) }
 
-    ensures right { (a : _) (b : _) (p : _) (g : _) → F.held folder.old problem.now ≡ Some a → F.held folder.old graph.now ≡ Some b → IsAccepted a p → IsDrawn b p g → IfOk result (λ reply. IsRight p g reply.is_yes) }
-    ensures answered { (a : _) (b : _) (text : _) (yes_or_no : _) → F.held folder.old problem.now ≡ Some a → F.held folder.old graph.now ≡ Some b → Answers a b text yes_or_no → MatchResult result (λ reply. (reply.text ≡ text) × (reply.is_yes ≡ yes_or_no)) IsCutShort }
-    ensures refuses_problem { (a : _) (r : _) → F.held folder.old problem.now ≡ Some a → RefusesProblem a r → IsErrAnd result (λ stop. (stop ≡ Stop.Refused r) ⊎ IsCutShort stop) }
-    ensures refuses_graph { (a : _) (b : _) (r : _) → F.held folder.old problem.now ≡ Some a → F.held folder.old graph.now ≡ Some b → RefusesGraph a b r → IsErrAnd result (λ stop. (stop ≡ Stop.Refused r) ⊎ IsCutShort stop) }
+    ensures right { (a : _) (b : _) (p : _) (g : _) → F.held folder.old problem.now ≡ Some a
+        → F.held folder.old graph.now ≡ Some b → IsAccepted a p → IsDrawn b p g
+        → IfOk result (λ reply. IsRight p g reply.is_yes) }
+    ensures answered { (a : _) (b : _) (text : _) (yes_or_no : _)
+        → F.held folder.old problem.now ≡ Some a → F.held folder.old graph.now ≡ Some b
+        → Answers a b text yes_or_no
+        → MatchResult result
+        (λ reply. (reply.text ≡ text) × (reply.is_yes ≡ yes_or_no)) IsCutShort }
+    ensures refuses_problem { (a : _) (r : _) → F.held folder.old problem.now ≡ Some a
+        → RefusesProblem a r → IsErrAnd result (λ stop. (stop ≡ Stop.Refused r) ⊎ IsCutShort stop) }
+    ensures refuses_graph { (a : _) (b : _) (r : _) → F.held folder.old problem.now ≡ Some a
+        → F.held folder.old graph.now ≡ Some b → RefusesGraph a b r
+        → IsErrAnd result (λ stop. (stop ≡ Stop.Refused r) ⊎ IsCutShort stop) }
 
     ensures same { SameHeld (F.held folder.old) (F.held folder.new) }
     ensures later { NoneFell (F.faults folder.old) (F.faults folder.new) }
@@ -64,21 +80,41 @@ fn answer_check<F: Folder>(
 
 /// The answer to the words over the files of a folder, computed whole.
 pub fn answer<F: Folder>(alloc: Global, words: &[Text], folder: &mut F) -> Result<Reply, Stop>
-    ensures ok { IfOk result (λ reply. IfSome (problem_told (F.held folder.old) words.now) (λ a. IfSome (graph_told (F.held folder.old) words.now) (λ b. Answers a b reply.text reply.is_yes))) }
+    ensures ok { IfOk result (λ reply.
+        IfSome (problem_told (F.held folder.old) words.now) (λ a.
+        IfSome (graph_told (F.held folder.old) words.now) (λ b.
+        Answers a b reply.text reply.is_yes))) }
     ensures usage { IsErrOf result Stop.Usage → files_of words.now ≡ None }
-    ensures no_command { files_of words.now ≡ None → IsErrAnd result (λ stop. (stop ≡ Stop.Usage) ⊎ (stop ≡ Stop.Memory)) }
-    ensures refused { IfErr result (λ stop. (r : _) → stop ≡ Stop.Refused r → RefusesTold (problem_told (F.held folder.old) words.now) (graph_told (F.held folder.old) words.now) r) }
-    ensures fault { IsErrOf result Stop.ReadFault → FileRose (F.faults folder.old) (F.faults folder.new) words.now }
+    ensures no_command { files_of words.now ≡ None
+        → IsErrAnd result (λ stop. (stop ≡ Stop.Usage) ⊎ (stop ≡ Stop.Memory)) }
+    ensures refused { IfErr result (λ stop. (r : _) → stop ≡ Stop.Refused r
+        → RefusesTold (problem_told (F.held folder.old) words.now)
+        (graph_told (F.held folder.old) words.now) r) }
+    ensures fault { IsErrOf result Stop.ReadFault
+        → FileRose (F.faults folder.old) (F.faults folder.new) words.now }
 
     // Where the problem is refused, the graph file isn't asked for.
-    ensures problem_fault { (a : _) (r : _) → problem_told (F.held folder.old) words.now ≡ Some a → RefusesProblem a r
+    ensures problem_fault { (a : _) (r : _)
+        → problem_told (F.held folder.old) words.now ≡ Some a → RefusesProblem a r
         → IsErrOf result Stop.ReadFault → ProblemRose (F.faults folder.old) (F.faults folder.new) words.now }
 
     // What is told decides, but for a run that is cut short.
-    ensures right { (a : _) (b : _) (p : _) (g : _) → problem_told (F.held folder.old) words.now ≡ Some a → graph_told (F.held folder.old) words.now ≡ Some b → IsAccepted a p → IsDrawn b p g → IfOk result (λ reply. IsRight p g reply.is_yes) }
-    ensures answered { (a : _) (b : _) (text : _) (yes_or_no : _) → problem_told (F.held folder.old) words.now ≡ Some a → graph_told (F.held folder.old) words.now ≡ Some b → Answers a b text yes_or_no → MatchResult result (λ reply. (reply.text ≡ text) × (reply.is_yes ≡ yes_or_no)) IsCutShort }
-    ensures refuses_problem { (a : _) (r : _) → problem_told (F.held folder.old) words.now ≡ Some a → RefusesProblem a r → IsErrAnd result (λ stop. (stop ≡ Stop.Refused r) ⊎ IsCutShort stop) }
-    ensures refuses_graph { (a : _) (b : _) (r : _) → problem_told (F.held folder.old) words.now ≡ Some a → graph_told (F.held folder.old) words.now ≡ Some b → RefusesGraph a b r → IsErrAnd result (λ stop. (stop ≡ Stop.Refused r) ⊎ IsCutShort stop) }
+    ensures right { (a : _) (b : _) (p : _) (g : _)
+        → problem_told (F.held folder.old) words.now ≡ Some a
+        → graph_told (F.held folder.old) words.now ≡ Some b → IsAccepted a p → IsDrawn b p g
+        → IfOk result (λ reply. IsRight p g reply.is_yes) }
+    ensures answered { (a : _) (b : _) (text : _) (yes_or_no : _)
+        → problem_told (F.held folder.old) words.now ≡ Some a
+        → graph_told (F.held folder.old) words.now ≡ Some b → Answers a b text yes_or_no
+        → MatchResult result
+        (λ reply. (reply.text ≡ text) × (reply.is_yes ≡ yes_or_no)) IsCutShort }
+    ensures refuses_problem { (a : _) (r : _)
+        → problem_told (F.held folder.old) words.now ≡ Some a → RefusesProblem a r
+        → IsErrAnd result (λ stop. (stop ≡ Stop.Refused r) ⊎ IsCutShort stop) }
+    ensures refuses_graph { (a : _) (b : _) (r : _)
+        → problem_told (F.held folder.old) words.now ≡ Some a
+        → graph_told (F.held folder.old) words.now ≡ Some b → RefusesGraph a b r
+        → IsErrAnd result (λ stop. (stop ≡ Stop.Refused r) ⊎ IsCutShort stop) }
 
     ensures same { SameHeld (F.held folder.old) (F.held folder.new) }
     ensures later { NoneFell (F.faults folder.old) (F.faults folder.new) }

@@ -11,7 +11,8 @@ use std::alloc::Global;
 
 /// Writes a line to the error output, or what of it can be written.
 pub fn say<E: Sink>(err: &mut E, line: &str)
-    ensures line { WroteLine (E.faults err.old) (E.faults err.new) (E.contents err.old) (E.contents err.new) line.now }
+    ensures line { WroteLine (E.faults err.old) (E.faults err.new) (E.contents err.old)
+        (E.contents err.new) line.now }
     ensures later { E.faults err.old ≤ E.faults err.new }
 {
     let _ = write_all(err, line.as_bytes());
@@ -23,10 +24,14 @@ pub fn complain<E: Sink>(alloc: Global, stop: Stop, err: &mut E) -> Status
     ensures fault { result ≡ Status.ReadFault → stop ≡ Stop.ReadFault }
     ensures no_answer { IsComplaint result }
     ensures cut_short { IsCutShort stop → (result ≡ Status.ReadFault) ⊎ (result ≡ Status.NoMemory) }
-    ensures refused { (r : _) → stop ≡ Stop.Refused r → IsRefusedAs r (E.faults err.old) (E.faults err.new) (E.contents err.old) (E.contents err.new) result }
+    ensures refused { (r : _) → stop ≡ Stop.Refused r
+        → IsRefusedAs r (E.faults err.old) (E.faults err.new) (E.contents err.old)
+        (E.contents err.new) result }
 
     // Whatever the files are, where they are the cause of a refusal.
-    ensures line { (p : _) (g : _) → ((r : _) → stop ≡ Stop.Refused r → RefusesTold p g r) → Complained p g (E.faults err.old) (E.faults err.new) (E.contents err.old) (E.contents err.new) result }
+    ensures line { (p : _) (g : _) → ((r : _) → stop ≡ Stop.Refused r → RefusesTold p g r)
+        → Complained p g (E.faults err.old) (E.faults err.new) (E.contents err.old)
+        (E.contents err.new) result }
     ensures silent { (p : _) (g : _) (out : _) → Wrote p g out out result }
     ensures later { E.faults err.old ≤ E.faults err.new }
 {

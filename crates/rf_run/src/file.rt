@@ -22,14 +22,20 @@ const GRAPH_LIMIT: usize = 67108864;
 
 /// The problem in a file, accepted or refused.
 pub fn open_problem<F: Folder>(alloc: Global, folder: &mut F, name: &str) -> Result<Problem, Stop>
-    ensures ok { IfOk result (λ p. IfSome (F.held folder.old name.now) (λ bytes. IsAccepted bytes p)) }
-    ensures refused { IfErr result (λ stop. (r : _) → stop ≡ Stop.Refused r → (g : _) → RefusesTold (F.held folder.old name.now) g r) }
+    ensures ok { IfOk result (λ p. IfSome (F.held folder.old name.now)
+        (λ bytes. IsAccepted bytes p)) }
+    ensures refused { IfErr result (λ stop. (r : _) → stop ≡ Stop.Refused r → (g : _)
+        → RefusesTold (F.held folder.old name.now) g r) }
     ensures usage { IsErrOf result Stop.Usage → ⊥ }
-    ensures fault { IsErrOf result Stop.ReadFault → Rose (F.faults folder.old name.now) (F.faults folder.new name.now) }
+    ensures fault { IsErrOf result Stop.ReadFault
+        → Rose (F.faults folder.old name.now) (F.faults folder.new name.now) }
 
     // What is told decides, but for a run that is cut short.
-    ensures accepted { (bytes : _) (p : _) → F.held folder.old name.now ≡ Some bytes → IsAccepted bytes p → MatchResult result (λ q. q ≡ p) IsCutShort }
-    ensures refuses { (bytes : _) (r : _) → F.held folder.old name.now ≡ Some bytes → RefusesProblem bytes r → IsErrAnd result (λ stop. (stop ≡ Stop.Refused r) ⊎ IsCutShort stop) }
+    ensures accepted { (bytes : _) (p : _) → F.held folder.old name.now ≡ Some bytes
+        → IsAccepted bytes p → MatchResult result (λ q. q ≡ p) IsCutShort }
+    ensures refuses { (bytes : _) (r : _) → F.held folder.old name.now ≡ Some bytes
+        → RefusesProblem bytes r
+        → IsErrAnd result (λ stop. (stop ≡ Stop.Refused r) ⊎ IsCutShort stop) }
 
     ensures same { SameHeld (F.held folder.old) (F.held folder.new) }
     ensures later { NoneFell (F.faults folder.old) (F.faults folder.new) }
@@ -54,15 +60,23 @@ pub fn open_graph<F: Folder>(
     problem: &Problem,
 ) -> Result<Graph, Stop>
     ensures fits { IfOk result (λ g. Fits problem.now g) }
-    ensures ok { IfOk result (λ g. IfSome (F.held folder.old name.now) (λ bytes. IsDrawn bytes problem.now g)) }
-    ensures refused { IfErr result (λ stop. (r : _) → stop ≡ Stop.Refused r → (a : _) → IsAccepted a problem.now → RefusesFor a (F.held folder.old name.now) r) }
+    ensures ok { IfOk result (λ g. IfSome (F.held folder.old name.now)
+        (λ bytes. IsDrawn bytes problem.now g)) }
+    ensures refused { IfErr result (λ stop. (r : _) → stop ≡ Stop.Refused r → (a : _)
+        → IsAccepted a problem.now → RefusesFor a (F.held folder.old name.now) r) }
     ensures usage { IsErrOf result Stop.Usage → ⊥ }
-    ensures fault { IsErrOf result Stop.ReadFault → Rose (F.faults folder.old name.now) (F.faults folder.new name.now) }
+    ensures fault { IsErrOf result Stop.ReadFault
+        → Rose (F.faults folder.old name.now) (F.faults folder.new name.now) }
 
     // What is told decides, but for a run that is cut short.
-    ensures drawn { (bytes : _) (g : _) → F.held folder.old name.now ≡ Some bytes → IsDrawn bytes problem.now g → MatchResult result (λ h. h ≡ g) IsCutShort }
-    ensures too_long { (bytes : _) → F.held folder.old name.now ≡ Some bytes → graph_limit < length bytes → IsErrAnd result (λ stop. (stop ≡ Stop.Refused Refusal.GraphTooLong) ⊎ IsCutShort stop) }
-    ensures bad_line { (bytes : _) (line : _) → F.held folder.old name.now ≡ Some bytes → length bytes ≤ graph_limit → IsBadLine problem.now bytes line → IsErrAnd result (λ stop. (stop ≡ Stop.Refused (Refusal.BadLine line)) ⊎ IsCutShort stop) }
+    ensures drawn { (bytes : _) (g : _) → F.held folder.old name.now ≡ Some bytes
+        → IsDrawn bytes problem.now g → MatchResult result (λ h. h ≡ g) IsCutShort }
+    ensures too_long { (bytes : _) → F.held folder.old name.now ≡ Some bytes
+        → graph_limit < length bytes
+        → IsErrAnd result (λ stop. (stop ≡ Stop.Refused Refusal.GraphTooLong) ⊎ IsCutShort stop) }
+    ensures bad_line { (bytes : _) (line : _) → F.held folder.old name.now ≡ Some bytes
+        → length bytes ≤ graph_limit → IsBadLine problem.now bytes line
+        → IsErrAnd result (λ stop. (stop ≡ Stop.Refused (Refusal.BadLine line)) ⊎ IsCutShort stop) }
 
     ensures same { SameHeld (F.held folder.old) (F.held folder.new) }
     ensures later { NoneFell (F.faults folder.old) (F.faults folder.new) }

@@ -72,7 +72,8 @@ fn name_line(alloc: Global, error: NameError) -> Result<Text, AllocError>
 }
 
 fn unexpected_line(alloc: Global, token: u64, at: u64) -> Result<Text, AllocError>
-    ensures { IfOk result (λ text. text ≡ fault_line (codes "unexpected token " ++ decimal token) at) }
+    ensures { IfOk result (λ text. text ≡ fault_line (codes "unexpected token "
+        ++ decimal token) at) }
 {
     let mut fault = Text::from_str(alloc, "unexpected token ")?;
     push_number(alloc, &mut fault, token)?;
@@ -92,7 +93,8 @@ fn source_line(alloc: Global, error: SourceError) -> Result<Text, AllocError>
 }
 
 fn bad_line(alloc: Global, number: u64) -> Result<Text, AllocError>
-    ensures { IfOk result (λ text. text ≡ codes "graph: bad line " ++ decimal number ++ codes "\n") }
+    ensures { IfOk result (λ text. text ≡ codes "graph: bad line " ++ decimal number
+        ++ codes "\n") }
 {
     let mut text = Text::from_str(alloc, "graph: bad line ")?;
     push_number(alloc, &mut text, number)?;

@@ -110,9 +110,12 @@ fn reply_with(alloc: Global, problem: &Problem, verdict: Verdict) -> Result<Repl
 /// The verdict on a graph, printed.
 pub fn reply_to(alloc: Global, problem: &Problem, graph: &Graph) -> Result<Reply, AllocError>
     requires { Fits problem.now graph.now }
-    ensures judged { IfOk result (λ reply. (v : Verdict) × IsVerdict problem.now graph.now v × (reply.text ≡ verdict_text problem.now v) × (reply.is_yes ≡ is_yes v)) }
+    ensures judged { IfOk result (λ reply. (v : Verdict) × IsVerdict problem.now graph.now v
+        × (reply.text ≡ verdict_text problem.now v) × (reply.is_yes ≡ is_yes v)) }
     ensures right { IfOk result (λ reply. IsRight problem.now graph.now reply.is_yes) }
-    ensures same { (v : Verdict) → IsVerdict problem.now graph.now v → IfOk result (λ reply. (reply.text ≡ verdict_text problem.now v) × (reply.is_yes ≡ is_yes v)) }
+    ensures same { (v : Verdict) → IsVerdict problem.now graph.now v
+        → IfOk result (λ reply. (reply.text ≡ verdict_text problem.now v) × (reply.is_yes
+        ≡ is_yes v)) }
 {
     match judge(alloc, problem, graph) {
         Ok(verdict) => reply_with(alloc, problem, verdict),

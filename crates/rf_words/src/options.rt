@@ -72,7 +72,8 @@ pub fn checked<'a>(
 ) -> Result<Vec<&'a str>, WordsError>
     ensures same { IfOk result (λ words. texts words.items ≡ arguments.now) }
     ensures ok { IfOk result (λ words. list_all (is_word (texts names.now)) arguments.now ≡ true) }
-    ensures usage { IfErr result (λ e. e ≡ WordsError.Usage → said (texts names.now) arguments.now ≡ None) }
+    ensures usage { IfErr result (λ e. e ≡ WordsError.Usage
+        → said (texts names.now) arguments.now ≡ None) }
 {
     let mut words = Vec::new(alloc);
     for argument in arguments {

@@ -25,7 +25,8 @@ fn with_option<'a>(
     command: Command<'a>,
     name: &'a str,
 ) -> Result<Command<'a>, AllocError>
-    ensures { IfOk result (λ more. app_of more ≡ with_rule (app_of command.entry) (option_rule name.entry.now)) }
+    ensures { IfOk result (λ more. app_of more
+        ≡ with_rule (app_of command.entry) (option_rule name.entry.now)) }
 {
     let option = Arg::new(alloc, name).long(name).action(ArgAction::Append);
     command.arg(option)
@@ -63,8 +64,10 @@ pub fn parse<'a>(
 ) -> Result<ArgMatches<'a>, WordsError>
     requires names { are_names (texts names.now) ≡ true }
     requires checked { list_all (is_word (texts names.now)) (texts words.now) ≡ true }
-    ensures ok { IfOk result (λ matches. Holds (texts names.now) (rows_of (found_of matches)) (said (texts names.now) (texts words.now))) }
-    ensures usage { IfErr result (λ e. e ≡ WordsError.Usage → said (texts names.now) (texts words.now) ≡ None) }
+    ensures ok { IfOk result (λ matches. Holds (texts names.now) (rows_of (found_of matches))
+        (said (texts names.now) (texts words.now))) }
+    ensures usage { IfErr result (λ e. e ≡ WordsError.Usage
+        → said (texts names.now) (texts words.now) ≡ None) }
 {
     let command = reader(alloc, names)?;
     match command.try_get_matches_from(words) {
@@ -75,15 +78,18 @@ pub fn parse<'a>(
 
 // The values by an id.
 fn values<'m, 'a>(matches: &'m ArgMatches<'a>, id: &str) -> Option<&'m [&'a str]>
-    ensures { option_map_or (λ vs. texts vs.now) result [] ≡ values_at id.now (rows_of (found_of matches.now)) }
+    ensures { option_map_or (λ vs. texts vs.now) result []
+        ≡ values_at id.now (rows_of (found_of matches.now)) }
 {
     matches.get_raw(id)
 }
 
 /// The one word that is no option.
 pub fn one_plain<'a>(matches: &ArgMatches<'a>) -> Option<&'a str>
-    ensures some { IfSome result (λ word. values_at PLAIN.now (rows_of (found_of matches.now)) ≡ word.now ∷ []) }
-    ensures none { result ≡ None → (word : List ℕ) → values_at PLAIN.now (rows_of (found_of matches.now)) ≡ word ∷ [] → ⊥ }
+    ensures some { IfSome result (λ word. values_at PLAIN.now (rows_of (found_of matches.now))
+        ≡ word.now ∷ []) }
+    ensures none { result ≡ None → (word : List ℕ)
+        → values_at PLAIN.now (rows_of (found_of matches.now)) ≡ word ∷ [] → ⊥ }
 {
     match values(matches, PLAIN)? {
         [word] => Some(*word),
@@ -93,8 +99,10 @@ pub fn one_plain<'a>(matches: &ArgMatches<'a>) -> Option<&'a str>
 
 /// The two words that are no options.
 pub fn two_plain<'a>(matches: &ArgMatches<'a>) -> Option<(&'a str, &'a str)>
-    ensures some { IfSome result (λ p. values_at PLAIN.now (rows_of (found_of matches.now)) ≡ p.0.now ∷ p.1.now ∷ []) }
-    ensures none { result ≡ None → (a b : List ℕ) → values_at PLAIN.now (rows_of (found_of matches.now)) ≡ a ∷ b ∷ [] → ⊥ }
+    ensures some { IfSome result (λ p. values_at PLAIN.now (rows_of (found_of matches.now))
+        ≡ p.0.now ∷ p.1.now ∷ []) }
+    ensures none { result ≡ None → (a b : List ℕ)
+        → values_at PLAIN.now (rows_of (found_of matches.now)) ≡ a ∷ b ∷ [] → ⊥ }
 {
     match values(matches, PLAIN)? {
         [first, second] => Some((*first, *second)),
@@ -124,8 +132,10 @@ pub fn number(
     default: u64,
 ) -> Option<u64>
     requires { default ≤ most }
-    ensures some { IfSome result (λ n. HasNumber (values_at name.now (rows_of (found_of matches.now))) least most default n) }
-    ensures none { result ≡ None → (n : ℕ) → HasNumber (values_at name.now (rows_of (found_of matches.now))) least most default n → ⊥ }
+    ensures some { IfSome result (λ n.
+        HasNumber (values_at name.now (rows_of (found_of matches.now))) least most default n) }
+    ensures none { result ≡ None → (n : ℕ)
+        → HasNumber (values_at name.now (rows_of (found_of matches.now))) least most default n → ⊥ }
     ensures bound { IfSome result (λ n. n ≤ most) }
 {
     match values(matches, name) {

@@ -15,7 +15,8 @@ const MOST_GROWTH: u64 = 200;
 
 fn generate(alloc: Global, arguments: &[Text]) -> Result<Command, WordsError>
     ensures ok { IfOk result (λ c. IsCommand (codes "generate" ∷ arguments.now) c) }
-    ensures usage { IfErr result (λ e. e ≡ WordsError.Usage → (c : _) → IsCommand (codes "generate" ∷ arguments.now) c → ⊥) }
+    ensures usage { IfErr result (λ e. e ≡ WordsError.Usage → (c : _)
+        → IsCommand (codes "generate" ∷ arguments.now) c → ⊥) }
 {
     let names = ["seed", "budget"].as_slice();
     let words = match checked(alloc, names, arguments) {
@@ -46,7 +47,8 @@ fn generate(alloc: Global, arguments: &[Text]) -> Result<Command, WordsError>
 // The one word of a command without options.
 fn one_word(alloc: Global, arguments: &[Text]) -> Result<Text, WordsError>
     ensures ok { IfOk result (λ word. SaysPlain arguments.now (word ∷ [])) }
-    ensures usage { IfErr result (λ e. e ≡ WordsError.Usage → (word : _) → SaysPlain arguments.now (word ∷ []) → ⊥) }
+    ensures usage { IfErr result (λ e. e ≡ WordsError.Usage → (word : _)
+        → SaysPlain arguments.now (word ∷ []) → ⊥) }
 {
     let names = [].as_slice();
     let words = match checked(alloc, names, arguments) {
@@ -66,7 +68,8 @@ fn one_word(alloc: Global, arguments: &[Text]) -> Result<Text, WordsError>
 // The two words of a command without options.
 fn two_words(alloc: Global, arguments: &[Text]) -> Result<(Text, Text), WordsError>
     ensures ok { IfOk result (λ p. SaysPlain arguments.now (p.0 ∷ p.1 ∷ [])) }
-    ensures usage { IfErr result (λ e. e ≡ WordsError.Usage → (a : _) (b : _) → SaysPlain arguments.now (a ∷ b ∷ []) → ⊥) }
+    ensures usage { IfErr result (λ e. e ≡ WordsError.Usage → (a : _) (b : _)
+        → SaysPlain arguments.now (a ∷ b ∷ []) → ⊥) }
 {
     let names = [].as_slice();
     let words = match checked(alloc, names, arguments) {
@@ -88,7 +91,8 @@ fn two_words(alloc: Global, arguments: &[Text]) -> Result<(Text, Text), WordsErr
 
 fn check(alloc: Global, arguments: &[Text]) -> Result<Command, WordsError>
     ensures ok { IfOk result (λ c. IsCommand (codes "check" ∷ arguments.now) c) }
-    ensures usage { IfErr result (λ e. e ≡ WordsError.Usage → (c : _) → IsCommand (codes "check" ∷ arguments.now) c → ⊥) }
+    ensures usage { IfErr result (λ e. e ≡ WordsError.Usage → (c : _)
+        → IsCommand (codes "check" ∷ arguments.now) c → ⊥) }
 {
     match two_words(alloc, arguments) {
         Ok((file, graph)) => Ok(Command::Check { file, graph }),
@@ -98,7 +102,8 @@ fn check(alloc: Global, arguments: &[Text]) -> Result<Command, WordsError>
 
 fn verify(alloc: Global, arguments: &[Text]) -> Result<Command, WordsError>
     ensures ok { IfOk result (λ c. IsCommand (codes "verify" ∷ arguments.now) c) }
-    ensures usage { IfErr result (λ e. e ≡ WordsError.Usage → (c : _) → IsCommand (codes "verify" ∷ arguments.now) c → ⊥) }
+    ensures usage { IfErr result (λ e. e ≡ WordsError.Usage → (c : _)
+        → IsCommand (codes "verify" ∷ arguments.now) c → ⊥) }
 {
     match two_words(alloc, arguments) {
         Ok((file, tree)) => Ok(Command::Verify { file, tree }),
@@ -108,7 +113,8 @@ fn verify(alloc: Global, arguments: &[Text]) -> Result<Command, WordsError>
 
 fn session(alloc: Global, arguments: &[Text]) -> Result<Command, WordsError>
     ensures ok { IfOk result (λ c. IsCommand (codes "session" ∷ arguments.now) c) }
-    ensures usage { IfErr result (λ e. e ≡ WordsError.Usage → (c : _) → IsCommand (codes "session" ∷ arguments.now) c → ⊥) }
+    ensures usage { IfErr result (λ e. e ≡ WordsError.Usage → (c : _)
+        → IsCommand (codes "session" ∷ arguments.now) c → ⊥) }
 {
     match two_words(alloc, arguments) {
         Ok((file, script)) => Ok(Command::Session { file, script }),
@@ -118,7 +124,8 @@ fn session(alloc: Global, arguments: &[Text]) -> Result<Command, WordsError>
 
 fn evaluate(alloc: Global, arguments: &[Text]) -> Result<Command, WordsError>
     ensures ok { IfOk result (λ c. IsCommand (codes "evaluate" ∷ arguments.now) c) }
-    ensures usage { IfErr result (λ e. e ≡ WordsError.Usage → (c : _) → IsCommand (codes "evaluate" ∷ arguments.now) c → ⊥) }
+    ensures usage { IfErr result (λ e. e ≡ WordsError.Usage → (c : _)
+        → IsCommand (codes "evaluate" ∷ arguments.now) c → ⊥) }
 {
     match one_word(alloc, arguments) {
         Ok(file) => Ok(Command::Evaluate { file }),
@@ -128,7 +135,8 @@ fn evaluate(alloc: Global, arguments: &[Text]) -> Result<Command, WordsError>
 
 fn grow(alloc: Global, arguments: &[Text]) -> Result<Command, WordsError>
     ensures ok { IfOk result (λ c. IsCommand (codes "grow" ∷ arguments.now) c) }
-    ensures usage { IfErr result (λ e. e ≡ WordsError.Usage → (c : _) → IsCommand (codes "grow" ∷ arguments.now) c → ⊥) }
+    ensures usage { IfErr result (λ e. e ≡ WordsError.Usage → (c : _)
+        → IsCommand (codes "grow" ∷ arguments.now) c → ⊥) }
 {
     let word = match one_word(alloc, arguments) {
         Ok(word) => word,
@@ -142,7 +150,8 @@ fn grow(alloc: Global, arguments: &[Text]) -> Result<Command, WordsError>
 
 fn named(alloc: Global, name: &str, arguments: &[Text]) -> Result<Command, WordsError>
     ensures ok { IfOk result (λ c. IsCommand (name.now ∷ arguments.now) c) }
-    ensures usage { IfErr result (λ e. e ≡ WordsError.Usage → (c : _) → IsCommand (name.now ∷ arguments.now) c → ⊥) }
+    ensures usage { IfErr result (λ e. e ≡ WordsError.Usage → (c : _)
+        → IsCommand (name.now ∷ arguments.now) c → ⊥) }
 {
     match name {
         "generate" => generate(alloc, arguments),
@@ -168,7 +177,8 @@ fn read(alloc: Global, words: &[Text]) -> Result<Command, WordsError>
 /// The command that the words are, behind the program's name.
 pub fn command(alloc: Global, words: &[Text]) -> Result<Command, WordsError>
     ensures ok { IfOk result (λ c. IsCommand words.now c) }
-    ensures found { (c : _) → IsCommand words.now c → MatchResult result (λ r. r ≡ c) (λ e. e ≡ WordsError.Memory) }
+    ensures found { (c : _) → IsCommand words.now c
+        → MatchResult result (λ r. r ≡ c) (λ e. e ≡ WordsError.Memory) }
     ensures usage { IfErr result (λ e. e ≡ WordsError.Usage → (c : _) → IsCommand words.now c → ⊥) }
 {
     read(alloc, words)
