@@ -7,7 +7,7 @@ use Rattle.rf_syntax.specs.declared.predicate.BodyLiteral.{BodyLiteral}
 use Rattle.rf_syntax.specs.declared.predicate.Param.{Param}
 use Rattle.rf_syntax.specs.declared.assertion.AtomForm.{AtomForm}
 use Rattle.rf_values.specs.declared.truth.Truth.{Truth}
-use Rattle.rf_syntax.specs.declared.list.List.{List as NonEmpty}
+use Rattle.rf_syntax.specs.declared.non_empty.NonEmpty.{NonEmpty}
 use Rattle.rf_syntax.specs.declared.predicate.PredicateWord.{PredicateWord}
 use Rattle.rf_syntax.specs.declared.predicate.PredicateWord.TheVariants.{Pred, Error, ErrorPred}
 use Rattle.rf_syntax.specs.declared.assertion.ValueWord.{ValueWord}

@@ -6,7 +6,7 @@ ghost use Rattle.rf_names.specs.Declarations.{asserted_atom, asserted_truth, ass
 
 use crate::forms::{AssertForm, ClassForm, ClauseForm, PredicateForm, ReferenceForm};
 use rf_syntax::{
-    Arg, AssertionForm, AtomForm, BodyLiteral, Bound, Feature, Item, List, Name, PredicateWord,
+    Arg, AssertionForm, AtomForm, BodyLiteral, Bound, Feature, Item, Name, NonEmpty, PredicateWord,
     Statement, ValueWord,
 };
 use rf_text::Items;
@@ -26,7 +26,7 @@ pub fn push_all<'a, T>(out: &mut Vec<&'a T>, items: &'a [T]) -> Result<(), Alloc
     Ok(())
 }
 
-fn push_list<'a, T>(out: &mut Vec<&'a T>, list: &'a List<T>) -> Result<(), AllocError>
+fn push_list<'a, T>(out: &mut Vec<&'a T>, list: &'a NonEmpty<T>) -> Result<(), AllocError>
     ensures { OnOk result (map (λ i. i.now) out.new.items ≡ map (λ i. i.now) out.old.items
         ++ items_of list.now) }
 {
@@ -44,7 +44,10 @@ fn push_item_names<'a>(out: &mut Vec<&'a Name>, items: &'a [Item]) -> Result<(),
     Ok(())
 }
 
-fn push_names_of_items<'a>(out: &mut Vec<&'a Name>, list: &'a List<Item>) -> Result<(), AllocError>
+fn push_names_of_items<'a>(
+    out: &mut Vec<&'a Name>,
+    list: &'a NonEmpty<Item>,
+) -> Result<(), AllocError>
     ensures { OnOk result (map (λ n. n.now) out.new.items ≡ map (λ n. n.now) out.old.items
         ++ map (λ i. i.name) (items_of list.now)) }
 {
@@ -53,7 +56,10 @@ fn push_names_of_items<'a>(out: &mut Vec<&'a Name>, list: &'a List<Item>) -> Res
 }
 
 // The names behind `extends`, which may be left out.
-fn supers_of<'a>(alloc: Global, supers: &'a Option<List<Name>>) -> Result<Vec<&'a Name>, AllocError>
+fn supers_of<'a>(
+    alloc: Global,
+    supers: &'a Option<NonEmpty<Name>>,
+) -> Result<Vec<&'a Name>, AllocError>
     ensures { IfOk result (λ v. map (λ n. n.now) v.items ≡ items_or_none supers.now) }
 {
     let mut names = Vec::new(alloc);
@@ -72,7 +78,10 @@ fn features_of(body: &Option<Items<Feature>>) -> &[Feature]
     }
 }
 
-fn clause_of<'a>(alloc: Global, list: &'a List<BodyLiteral>) -> Result<ClauseForm<'a>, AllocError>
+fn clause_of<'a>(
+    alloc: Global,
+    list: &'a NonEmpty<BodyLiteral>,
+) -> Result<ClauseForm<'a>, AllocError>
     ensures { IfOk result (λ c. c ≡ items_of list.now) }
 {
     let mut literals = Vec::new(alloc);
@@ -83,7 +92,7 @@ fn clause_of<'a>(alloc: Global, list: &'a List<BodyLiteral>) -> Result<ClauseFor
 fn push_clauses<'a>(
     alloc: Global,
     out: &mut Vec<ClauseForm<'a>>,
-    clauses: &'a [List<BodyLiteral>],
+    clauses: &'a [NonEmpty<BodyLiteral>],
 ) -> Result<(), AllocError>
     ensures { OnOk result (out.new.items ≡ out.old.items ++ map items_of clauses.now) }
 {
@@ -95,7 +104,7 @@ fn push_clauses<'a>(
 
 fn clauses_of<'a>(
     alloc: Global,
-    clauses: &'a List<List<BodyLiteral>>,
+    clauses: &'a NonEmpty<NonEmpty<BodyLiteral>>,
 ) -> Result<Vec<ClauseForm<'a>>, AllocError>
     ensures { IfOk result (λ v. v.items ≡ map items_of (items_of clauses.now)) }
 {

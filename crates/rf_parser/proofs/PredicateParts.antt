@@ -3,7 +3,7 @@ use Rattle.std.proofs.Common.{◌≡◌, ◌⊎◌, Bool, true, false, List, [],
 use Rattle.rf_lexer.specs.declared.keyword.Keyword.TheVariants.{Pred as PredKeyword}
 use Rattle.rf_lexer.specs.declared.mark.Mark.TheVariants.{Bang, RightParen}
 use Rattle.rf_lexer.specs.declared.token.Kind.{Kind}
-use Rattle.rf_syntax.specs.declared.list.List.{List as NonEmpty}
+use Rattle.rf_syntax.specs.declared.non_empty.NonEmpty.{NonEmpty}
 use Rattle.rf_syntax.specs.declared.name.Name.{Name}
 use Rattle.rf_syntax.specs.declared.predicate.BodyLiteral.{BodyLiteral}
 use Rattle.rf_syntax.specs.declared.predicate.BodyLiteral.TheVariants.{Call as CallLiteral, Same as SameLiteral, Differ as DifferLiteral}

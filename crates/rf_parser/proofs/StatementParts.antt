@@ -1,7 +1,7 @@
 -- What is read of lists of objects and bounds.
 use Rattle.std.proofs.Common.{◌≡◌, ◌⊎◌, Bool, true, false, List, [], Option, None, Some, inl, inr, refl, sym, ◌∙◌}
 use Rattle.rf_lexer.specs.declared.token.Kind.{Kind}
-use Rattle.rf_syntax.specs.declared.list.List.{List as NonEmpty}
+use Rattle.rf_syntax.specs.declared.non_empty.NonEmpty.{NonEmpty}
 use Rattle.rf_syntax.specs.declared.name.Name.{Name}
 use Rattle.rf_syntax.specs.declared.range.Range.{Range}
 use Rattle.rf_syntax.specs.declared.range.Upper.TheVariants.{Absent}

@@ -5,7 +5,7 @@ use Rattle.rf_lexer.specs.declared.token.Kind.{Kind}
 use Rattle.rf_lexer.specs.declared.token.Kind.TheVariants.{Word as WordKind, Mark as MarkKind}
 use Rattle.rf_syntax.specs.declared.class.Feature.{Feature}
 use Rattle.rf_syntax.specs.declared.class.MultPlace.{MultPlace}
-use Rattle.rf_syntax.specs.declared.list.List.{List as NonEmpty}
+use Rattle.rf_syntax.specs.declared.non_empty.NonEmpty.{NonEmpty}
 use Rattle.rf_syntax.specs.declared.name.Name.{Name}
 use Rattle.rf_syntax.specs.declared.predicate.BodyLiteral.{BodyLiteral}
 use Rattle.rf_syntax.specs.declared.predicate.BodyLiteral.TheVariants.{Call as CallLiteral, Same as SameLiteral, Differ as DifferLiteral}

@@ -13,16 +13,16 @@ use crate::read::Read;
 use crate::stop::Stop;
 use crate::terminals::{Terminal, begins_with, behind, expect, flag};
 use rf_lexer::{Keyword, Mark, Token};
-use rf_syntax::{Feature, FeatureWord, List, Mult, MultPlace, Name, Statement};
+use rf_syntax::{Feature, FeatureWord, Mult, MultPlace, Name, NonEmpty, Statement};
 use rf_text::Items;
 use std::alloc::Global;
 
-impl Read for List<Name> {
+impl Read for NonEmpty<Name> {
     ghost pieces = { separated comma name_pieces };
 
     ghost longer = { either comma never };
 
-    fn read(alloc: Global, tokens: &[Token]) -> Result<(List<Name>, &[Token]), Stop> {
+    fn read(alloc: Global, tokens: &[Token]) -> Result<(NonEmpty<Name>, &[Token]), Stop> {
         read_separated(alloc, Terminal::Mark(Mark::Comma), tokens)
     }
 }

@@ -8,7 +8,7 @@ use crate::read::Read;
 use crate::stop::Stop;
 use crate::terminals::{Terminal, behind, expect};
 use rf_lexer::{Mark, Token};
-use rf_syntax::List;
+use rf_syntax::NonEmpty;
 use rf_text::Items;
 use std::alloc::Global;
 
@@ -67,7 +67,7 @@ pub fn read_separated<T: Read>(
     alloc: Global,
     terminal: Terminal,
     tokens: &[Token],
-) -> Result<(List<T>, &[Token]), Stop>
+) -> Result<(NonEmpty<T>, &[Token]), Stop>
     requires { T.longer (kind_of terminal) → ⊥ }
     ensures ok { IfOk result (λ p.
         IsRead (separated (kind_of terminal) T.pieces) (either (kind_of terminal) T.longer)
@@ -79,7 +79,7 @@ pub fn read_separated<T: Read>(
     let (first, after) = T::read(alloc, tokens)?;
     let mut rest = Items::from_vec(Vec::new(alloc));
     let after = push_each_behind(alloc, terminal, &mut rest, after)?;
-    Ok((List { first, rest }, after))
+    Ok((NonEmpty { first, rest }, after))
 }
 
 // Parts with commas between them in parentheses. There may be none.

@@ -12,7 +12,7 @@ use crate::read::Read;
 use crate::stop::Stop;
 use crate::terminals::{Terminal, behind, expect, flag};
 use rf_lexer::{Keyword, Mark, Token};
-use rf_syntax::{BodyLiteral, List, Name, Param, PredicateWord, Statement, SymbolName};
+use rf_syntax::{BodyLiteral, Name, NonEmpty, Param, PredicateWord, Statement, SymbolName};
 use rf_text::Items;
 use std::alloc::Global;
 
@@ -158,12 +158,12 @@ impl Read for BodyLiteral {
     }
 }
 
-impl Read for List<BodyLiteral> {
+impl Read for NonEmpty<BodyLiteral> {
     ghost pieces = { clause_pieces };
 
     ghost longer = { either comma never };
 
-    fn read(alloc: Global, tokens: &[Token]) -> Result<(List<BodyLiteral>, &[Token]), Stop> {
+    fn read(alloc: Global, tokens: &[Token]) -> Result<(NonEmpty<BodyLiteral>, &[Token]), Stop> {
         read_separated(alloc, Terminal::Mark(Mark::Comma), tokens)
     }
 }

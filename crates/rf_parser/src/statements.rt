@@ -13,7 +13,7 @@ use crate::read::Read;
 use crate::stop::Stop;
 use crate::terminals::{Terminal, begins_with, behind, expect};
 use rf_lexer::{Keyword, Mark, Token};
-use rf_syntax::{Bound, Item, List, Name, Range, Statement};
+use rf_syntax::{Bound, Item, Name, NonEmpty, Range, Statement};
 use std::alloc::Global;
 
 impl Read for Item {
@@ -59,7 +59,7 @@ impl Read for Bound {
 }
 
 // Parts with commas between them, and a full stop.
-fn read_list<T: Read>(alloc: Global, tokens: &[Token]) -> Result<(List<T>, &[Token]), Stop>
+fn read_list<T: Read>(alloc: Global, tokens: &[Token]) -> Result<(NonEmpty<T>, &[Token]), Stop>
     requires comma { T.longer comma → ⊥ }
     requires dot { T.longer dot → ⊥ }
     ensures ok { IfOk result (λ p. IsRead (list_to_dot T.pieces) never tokens.now p.0 p.1.now) }

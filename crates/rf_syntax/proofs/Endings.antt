@@ -4,7 +4,7 @@ use Rattle.std.proofs.lemmas.Bool.{and_parts, and_from}
 use Rattle.std.specs.List.{flat_map, list_all}
 use Rattle.rf_lexer.specs.declared.token.Kind.{Kind}
 use Rattle.rf_lexer.specs.declared.token.Kind.TheVariants.{Quoted, Name as Identifier}
-use Rattle.rf_syntax.specs.declared.list.List.{List as NonEmpty}
+use Rattle.rf_syntax.specs.declared.non_empty.NonEmpty.{NonEmpty}
 use Rattle.rf_syntax.specs.declared.assertion.Arg.{Arg}
 use Rattle.rf_syntax.specs.declared.assertion.Arg.TheVariants.{Star, Symbol}
 use Rattle.rf_syntax.specs.declared.assertion.AssertionForm.{AssertionForm}

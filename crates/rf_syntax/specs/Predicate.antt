@@ -1,5 +1,5 @@
 use Rattle.std.specs.Prelude.{List, [], ◌∷◌, ◌++◌}
-use Rattle.rf_syntax.specs.declared.list.List.{List as NonEmpty}
+use Rattle.rf_syntax.specs.declared.non_empty.NonEmpty.{NonEmpty}
 use Rattle.rf_syntax.specs.declared.name.Name.{Name}
 use Rattle.rf_syntax.specs.declared.predicate.BodyLiteral.{BodyLiteral}
 use Rattle.rf_syntax.specs.declared.predicate.BodyLiteral.TheVariants.{Call, Same, Differ}

@@ -1,4 +1,4 @@
-use crate::{AssertionForm, BodyLiteral, Feature, List, Name, Param, PredicateWord, Range};
+use crate::{AssertionForm, BodyLiteral, Feature, Name, NonEmpty, Param, PredicateWord, Range};
 use rf_text::Items;
 
 /// The statements of a problem text, in order.
@@ -12,7 +12,7 @@ pub enum Statement {
     Class {
         is_abstract: bool,
         name: Name,
-        supers: Option<List<Name>>,
+        supers: Option<NonEmpty<Name>>,
         /// The features between braces, or None where a `.` ends the statement.
         body: Option<Items<Feature>>,
     },
@@ -20,11 +20,11 @@ pub enum Statement {
         start: PredicateWord,
         name: Name,
         params: Items<Param>,
-        clauses: List<List<BodyLiteral>>,
+        clauses: NonEmpty<NonEmpty<BodyLiteral>>,
     },
-    Declare(List<Name>),
-    Multi(List<Item>),
-    Scope(List<Bound>),
+    Declare(NonEmpty<Name>),
+    Multi(NonEmpty<Item>),
+    Scope(NonEmpty<Bound>),
     Assert {
         is_default: bool,
         assertion: AssertionForm,

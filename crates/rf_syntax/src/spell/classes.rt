@@ -6,7 +6,7 @@ use super::parts::{
     push_each, push_flagged, push_mark, push_optional, push_optional_behind, push_word,
 };
 use super::production::Production;
-use crate::{Feature, FeatureWord, List, MultPlace, Name};
+use crate::{Feature, FeatureWord, MultPlace, Name, NonEmpty};
 use rf_lexer::{Keyword, Kind, Mark};
 use rf_text::Items;
 use std::alloc::AllocError;
@@ -72,7 +72,7 @@ pub fn push_class(
     out: &mut Vec<Kind>,
     is_abstract: bool,
     name: &Name,
-    supers: &Option<List<Name>>,
+    supers: &Option<NonEmpty<Name>>,
     body: &Option<Items<Feature>>,
 ) -> Result<(), AllocError>
     ensures { OnOk result (

@@ -5,7 +5,7 @@ ghost use Rattle.rf_syntax.specs.Piece.{kinds_of};
 ghost use Rattle.rf_syntax.specs.Terminals.{comma};
 
 use super::production::Production;
-use crate::List;
+use crate::NonEmpty;
 use rf_lexer::{Keyword, Kind, Mark};
 use std::alloc::AllocError;
 
@@ -94,7 +94,7 @@ pub fn push_each_behind<T: Production>(
 pub fn push_separated<T: Production>(
     out: &mut Vec<Kind>,
     mark: Mark,
-    parts: &List<T>,
+    parts: &NonEmpty<T>,
 ) -> Result<(), AllocError>
     ensures { OnOk result (
         out.new.items
@@ -123,7 +123,7 @@ pub fn push_separated_or_none<T: Production>(
 }
 
 // Where the grammar has a list of parts in one place, commas stand between them.
-impl<T: Production> Production for List<T> {
+impl<T: Production> Production for NonEmpty<T> {
     ghost pieces = { separated comma T.pieces };
 
     fn push_to(&self, out: &mut Vec<Kind>) -> Result<(), AllocError> {

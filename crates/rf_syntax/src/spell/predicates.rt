@@ -9,7 +9,7 @@ use super::parts::{
     push_flagged, push_mark, push_optional, push_separated, push_separated_or_none, push_word,
 };
 use super::production::Production;
-use crate::{BodyLiteral, List, Name, Param, PredicateWord, SymbolName};
+use crate::{BodyLiteral, Name, NonEmpty, Param, PredicateWord, SymbolName};
 use rf_lexer::{Keyword, Kind, Mark};
 use rf_text::Items;
 use std::alloc::AllocError;
@@ -102,7 +102,7 @@ pub fn push_predicate(
     start: PredicateWord,
     name: &Name,
     params: &Items<Param>,
-    clauses: &List<List<BodyLiteral>>,
+    clauses: &NonEmpty<NonEmpty<BodyLiteral>>,
 ) -> Result<(), AllocError>
     ensures { OnOk result (
         out.new.items

@@ -8,7 +8,7 @@ use super::classes::push_class;
 use super::parts::{push_flagged, push_mark, push_optional_behind, push_word};
 use super::predicates::push_predicate;
 use super::production::Production;
-use crate::{AssertionForm, Bound, Item, List, Statement};
+use crate::{AssertionForm, Bound, Item, NonEmpty, Statement};
 use rf_lexer::{Keyword, Kind, Mark};
 use std::alloc::AllocError;
 
@@ -40,7 +40,7 @@ impl Production for Bound {
 fn push_list<T: Production>(
     out: &mut Vec<Kind>,
     word: Keyword,
-    parts: &List<T>,
+    parts: &NonEmpty<T>,
 ) -> Result<(), AllocError>
     ensures { OnOk result (
         out.new.items

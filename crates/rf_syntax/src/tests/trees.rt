@@ -50,16 +50,16 @@ fn two<T: Drop>(alloc: Global, first: T, second: T) -> Result<Items<T>, AllocErr
     Ok(items)
 }
 
-fn single<T>(alloc: Global, first: T) -> List<T> {
-    List {
+fn single<T>(alloc: Global, first: T) -> NonEmpty<T> {
+    NonEmpty {
         first,
         rest: none(alloc),
     }
 }
 
-fn pair<T: Drop>(alloc: Global, first: T, second: T) -> Result<List<T>, AllocError> {
+fn pair<T: Drop>(alloc: Global, first: T, second: T) -> Result<NonEmpty<T>, AllocError> {
     let rest = one(alloc, second)?;
-    Ok(List { first, rest })
+    Ok(NonEmpty { first, rest })
 }
 
 pub fn bare_class(alloc: Global) -> Result<Statement, AllocError> {
@@ -99,7 +99,7 @@ pub fn full_class(alloc: Global) -> Result<Statement, AllocError> {
 }
 
 // !A::r+(x, y), x == y
-fn first_clause(alloc: Global) -> Result<List<BodyLiteral>, AllocError> {
+fn first_clause(alloc: Global) -> Result<NonEmpty<BodyLiteral>, AllocError> {
     let call = BodyLiteral::Call {
         negated: true,
         symbol: member(alloc, "A", "r")?,
