@@ -1,23 +1,18 @@
--- Bytes taken piece by piece are the front of the whole.
+-- Bytes taken piece by piece are the prefix of the whole.
 use Rattle.std.proofs.Common.{◌≡◌, ◌∙◌, ℕ, ◌+◌, List, ◌++◌, Option, Some, None, IfSome, take, drop, refl, append_assoc}
 use Rattle.std.proofs.Math.Seq.{take-add}
-use Rattle.rf_io.specs.Folder.{ReadsAt}
-use Rattle.rf_io.specs.Sink.{Appends}
+use Rattle.rf_io.specs.Sink.{Appends, SinkState}
 
--- two pieces of the same bytes, one behind the other
-pub appends_more : (old mid new : Option (List ℕ)) (bytes : List ℕ) (i n : ℕ) → Appends old mid (take i bytes) → Appends mid new (take n (drop i bytes)) → Appends old new (take (i + n) bytes)
-appends_more None mid new bytes i n first then = tt
-appends_more (Some before) mid new bytes i n first then =
-    let at : new ≡ Some ((before ++ take i bytes) ++ take n (drop i bytes)) = rw first at then in
-    at ∙ rw (append_assoc, ← take-add i n bytes) refl
-
--- the bytes so far are a front of the file, and the next read goes on there
-pub told_more :
-    (held now : Option (List ℕ)) (bytes more buf : List ℕ) (k at n k' : ℕ) →
-    now ≡ held → at ≡ k → more ≡ bytes ++ take n buf → k' ≡ k + n →
-    IfSome held (λ file. bytes ≡ take k file) → IfSome now (λ file. ReadsAt file at n buf) →
-    IfSome held (λ file. more ≡ take k' file)
-told_more None now bytes more buf k at n k' same place joined count so_far read = tt
-told_more (Some file) now bytes more buf k at n k' same place joined count so_far read =
-    let known : ReadsAt file k n buf = rw (same, place) at read in
-    rw (joined, count, take-add k n file, so_far, known.bytes) refl
+-- two pieces of the same bytes, one after the other
+pub appends_more :
+    (old mid new : SinkState) (bytes : List ℕ) (i n : ℕ) → Appends old mid (take i bytes) → Appends mid new (take n (drop i bytes)) →
+    Appends old new (take (i + n) bytes)
+appends_more old mid new bytes i n first then = joined old.contents mid.contents new.contents first then
+  where
+    joined :
+        (a b c : Option (List ℕ)) → IfSome a (λ before. b ≡ Some (before ++ take i bytes)) →
+        IfSome b (λ before. c ≡ Some (before ++ take n (drop i bytes))) → IfSome a (λ before. c ≡ Some (before ++ take (i + n) bytes))
+    joined None b c first then = tt
+    joined (Some before) b c first then =
+        let at : c ≡ Some ((before ++ take i bytes) ++ take n (drop i bytes)) = rw first at then in
+        at ∙ rw (append_assoc, ← take-add i n bytes) refl

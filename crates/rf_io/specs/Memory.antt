@@ -1,16 +1,19 @@
-use Rattle.std.specs.Prelude.{◌+◌, ◌-◌, ◌^◌, ℕ, Bool, if◌then◌else◌, List, ◌++◌, Option, find, min}
+-- Folders and sinks in memory: what is known of them beyond what every folder and sink promises.
+use Rattle.std.specs.Prelude.{◌+◌, ◌-◌, ◌^◌, ℕ, Bool, if◌then◌else◌, List, ◌++◌, Option, Some, find, min}
 use Rattle.std.specs.Option.{option_map}
 use Rattle.std.specs.Str.{bytes_eq}
 use Rattle.std.specs.declared.vec.Vec.{Vec}
 use Rattle.std.specs.declared.alloc.Global.{Global}
+use Rattle.rf_io.specs.Folder.{FolderState}
+use Rattle.rf_io.specs.Sink.{SinkState}
 
 -- a count that stands still at the end of its type
 abbrev pub raised : ℕ → ℕ
 raised n = min (n + 1) (2 ^ 64 - 1)
 
 -- the bytes of the first file with this name
-abbrev pub held_by : List (List ℕ × Vec ℕ Global) → List ℕ → Option (List ℕ)
-held_by files name = option_map (λ f. f.1.items) (find (λ f. bytes_eq f.0 name) files)
+abbrev pub file_named : List (List ℕ × Vec ℕ Global) → List ℕ → Option (List ℕ)
+file_named files name = option_map (λ f. f.1.items) (find (λ f. bytes_eq f.0 name) files)
 
 -- files in memory: which calls fail, by their numbers; the most bytes that a call gives; how many
 -- calls were made, and how many of them failed
@@ -20,6 +23,10 @@ pub record MemoryFolder : Type 0 where
   pub step : ℕ
   pub calls : ℕ
   pub faults : ℕ
+
+-- files in memory, as a folder: they are told, and one count serves all names
+abbrev pub folder_state : MemoryFolder → FolderState
+folder_state m = record { files = Some (file_named m.files); faults = λ name. m.faults }
 
 -- the folder after a call, which failed or did not
 abbrev pub folder_after : MemoryFolder → Bool → MemoryFolder
@@ -33,6 +40,10 @@ pub record MemorySink : Type 0 where
   pub step : ℕ
   pub calls : ℕ
   pub faults : ℕ
+
+-- a sink in memory, as a sink: the bytes are told
+abbrev pub sink_state : MemorySink → SinkState
+sink_state m = record { contents = Some m.bytes; faults = m.faults }
 
 -- the sink after a call that failed
 abbrev pub sink_failed : MemorySink → MemorySink

@@ -21,6 +21,3 @@ pub use read::{ReadError, read_file};
 pub use real::{RealFolder, StreamSink};
 pub use sink::Sink;
 pub use write::write_all;
-
-#[cfg(test)]
-mod tests;

@@ -1,8 +1,8 @@
 ghost use Rattle.std.specs.Prelude.{◌≡◌, ◌≢◌, ◌<◌, ◌≤◌, ◌-◌, ◌↔◌, ◌⊎◌, List, ℕ, length, take, drop, min, Contains, None, IfOk, IfSome, IsErr, is_err};
 ghost use Rattle.std.specs.Option.{option_copied};
 ghost use Rattle.rf_io.specs.Causes.{HasCause};
-ghost use Rattle.rf_io.specs.Folder.{ReadsAt, SameHeld, NoneFell};
-ghost use Rattle.rf_io.specs.Memory.{held_by, folder_after};
+ghost use Rattle.rf_io.specs.Folder.{IsMissing, NoneFell, ReadsAt, SameFiles, Stores};
+ghost use Rattle.rf_io.specs.Memory.{file_named, folder_after, folder_state};
 
 use crate::{Failed, Folder};
 use rf_text::Text;
@@ -31,13 +31,13 @@ impl Model for MemFolder {
 }
 
 fn find_file<'a>(files: &'a [(Text, Vec<u8>)], name: &str) -> Option<&'a [u8]>
-    ensures { option_copied result ≡ held_by files.now name.now }
+    ensures { option_copied result ≡ file_named files.now name.now }
 {
     let file = files.iter().find(|file| file.0.as_str() == name)?;
     Some(file.1.as_slice())
 }
 
-fn copy_front(from: &[u8], buf: &mut [u8], step: u64) -> usize
+fn copy_prefix(from: &[u8], buf: &mut [u8], step: u64) -> usize
     requires room { 0 < length buf.old }
     requires steps { 1 ≤ step }
     ensures count { result ≡ min step (min (length buf.new) (length from.now)) }
@@ -50,7 +50,7 @@ fn copy_front(from: &[u8], buf: &mut [u8], step: u64) -> usize
 
 impl MemFolder {
     /// The calls are numbered from 0, and those whose number is in `failing` fail. Each other read of
-    /// a held name gives at most `step` bytes. Of two files with one name the first is held.
+    /// a file gives at most `step` bytes. Of two files with one name the first is read.
     pub fn new(files: Vec<(Text, Vec<u8>)>, failing: Vec<u64>, step: u64) -> MemFolder
         requires { 1 ≤ step }
         ensures { result ≡ record { files = files.items; failing = failing.items; step = step; calls = 0; faults = 0 } }
@@ -66,21 +66,20 @@ impl MemFolder {
 }
 
 impl Folder for MemFolder {
-    ghost held = { λ m. held_by m.files };
-
-    ghost faults = { λ m _. m.faults };
+    ghost state = { folder_state };
 
     fn read_at(&mut self, name: &str, at: u64, buf: &mut [u8]) -> Result<usize, Failed>
         requires { 0 < length buf.old }
         ensures bound { IfOk result (λ n. n ≤ length buf.new) }
-        ensures bytes { IfOk result (λ n. IfSome (held_by self.old.files name.now) (λ file. ReadsAt file at n buf.new)) }
-        ensures same { SameHeld (held_by self.old.files) (held_by self.new.files) }
-        ensures later { NoneFell (λ _. self.old.faults) (λ _. self.new.faults) }
+        ensures bytes { IfOk result (λ n. (file : List ℕ) → Stores (folder_state self.old) name.now file → ReadsAt file at n buf.new) }
+        ensures missing { IsMissing (folder_state self.old) name.now → IsErr result }
+        ensures same { SameFiles (folder_state self.old) (folder_state self.new) }
+        ensures later { NoneFell (folder_state self.old) (folder_state self.new) }
         ensures cause { HasCause self.old.faults self.new.faults result }
 
         // Beyond what every folder promises: which calls fail, and how much the others give.
-        ensures failed { IsErr result ↔ (Contains self.old.failing self.old.calls ⊎ (held_by self.old.files name.now ≡ None)) }
-        ensures count { IfOk result (λ n. IfSome (held_by self.old.files name.now) (λ file. n ≡ min self.old.step (min (length buf.new) (length file - at)))) }
+        ensures failed { IsErr result ↔ (Contains self.old.failing self.old.calls ⊎ (file_named self.old.files name.now ≡ None)) }
+        ensures count { IfOk result (λ n. IfSome (file_named self.old.files name.now) (λ file. n ≡ min self.old.step (min (length buf.new) (length file - at)))) }
         ensures after { self.new ≡ folder_after self.old (is_err result) }
     {
         let call = self.calls;
@@ -96,6 +95,6 @@ impl Folder for MemFolder {
         if at >= file.len() as u64 {
             return Ok(0);
         }
-        Ok(copy_front(&file[at as usize..], buf, self.step))
+        Ok(copy_prefix(&file[at as usize..], buf, self.step))
     }
 }

@@ -1,7 +1,7 @@
 ghost use Rattle.std.specs.Prelude.{◌≡◌, ◌<◌, ◌≤◌, ◌-◌, ◌↔◌, ◌⊎◌, List, [], ℕ, length, take, min, Contains, Some, IfOk, OnErr, IsErr};
 ghost use Rattle.rf_io.specs.Causes.{HasCause};
-ghost use Rattle.rf_io.specs.Memory.{sink_failed, sink_after};
-ghost use Rattle.rf_io.specs.Sink.{Appends};
+ghost use Rattle.rf_io.specs.Memory.{sink_after, sink_failed, sink_state};
+ghost use Rattle.rf_io.specs.Sink.{Appends, IsUntouched};
 
 use crate::{Failed, Sink};
 use std::alloc::{AllocError, Global};
@@ -62,16 +62,14 @@ impl MemSink {
 }
 
 impl Sink for MemSink {
-    ghost contents = { λ m. Some m.bytes };
-
-    ghost faults = { λ m. m.faults };
+    ghost state = { sink_state };
 
     fn write(&mut self, piece: &[u8]) -> Result<usize, Failed>
         requires { 0 < length piece.now }
         ensures some { IfOk result (λ n. 0 < n) }
         ensures bound { IfOk result (λ n. n ≤ length piece.now) }
-        ensures bytes { IfOk result (λ n. Appends (Some self.old.bytes) (Some self.new.bytes) (take n piece.now)) }
-        ensures err { OnErr result (Some self.new.bytes ≡ Some self.old.bytes) }
+        ensures bytes { IfOk result (λ n. Appends (sink_state self.old) (sink_state self.new) (take n piece.now)) }
+        ensures err { OnErr result (IsUntouched (sink_state self.old) (sink_state self.new)) }
         ensures cause { HasCause self.old.faults self.new.faults result }
 
         // Beyond what every sink promises: which calls fail, and how much the others take.

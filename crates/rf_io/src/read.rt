@@ -1,6 +1,5 @@
-ghost use Rattle.std.specs.Prelude.{◌≡◌, ◌<◌, ◌≤◌, ◌+◌, List, ℕ, Option, length, IfOk, IfSome, IsErrOf};
-ghost use Rattle.rf_io.specs.Causes.{Rose};
-ghost use Rattle.rf_io.specs.Folder.{SameHeld, NoneFell};
+ghost use Rattle.std.specs.Prelude.{◌≡◌, ◌≤◌, length, IfOk, IsErrOf};
+ghost use Rattle.rf_io.specs.Folder.{IsLong, IsTold, NoneFell, ReadFailed, SameFiles};
 ghost use Rattle.rf_io.specs.declared.read.ReadError.TheVariants.{Memory};
 
 use crate::Folder;
@@ -35,19 +34,19 @@ fn make_buffer(alloc: Global, len: usize) -> Result<Vec<u8>, AllocError>
 }
 
 /// All the bytes of a file, which are at most `limit`. Nothing is read past the first piece that goes
-/// beyond the limit.
+/// beyond the limit. A file that isn't there is a fault.
 pub fn read_file<F: Folder>(
     alloc: Global,
     folder: &mut F,
     name: &str,
     limit: usize,
 ) -> Result<Vec<u8>, ReadError>
-    ensures whole { IfOk result (λ bytes. IfSome (F.held folder.old name.now) (λ file. bytes.items ≡ file)) }
+    ensures whole { IfOk result (λ bytes. IsTold (F.state folder.old) name.now bytes.items) }
     ensures short { IfOk result (λ bytes. length bytes.items ≤ limit) }
-    ensures too_long { IsErrOf result ReadError.TooLong → IfSome (F.held folder.old name.now) (λ file. limit < length file) }
-    ensures fault { IsErrOf result ReadError.Fault → Rose (F.faults folder.old name.now) (F.faults folder.new name.now) }
-    ensures same { SameHeld (F.held folder.old) (F.held folder.new) }
-    ensures later { NoneFell (F.faults folder.old) (F.faults folder.new) }
+    ensures too_long { IsErrOf result ReadError.TooLong → IsLong (F.state folder.old) name.now limit }
+    ensures fault { IsErrOf result ReadError.Fault → ReadFailed (F.state folder.old) (F.state folder.new) name.now }
+    ensures same { SameFiles (F.state folder.old) (F.state folder.new) }
+    ensures later { NoneFell (F.state folder.old) (F.state folder.new) }
 {
     let mut bytes = Vec::new(alloc);
     let mut buffer = make_buffer(alloc, PIECE)?;

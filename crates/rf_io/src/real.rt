@@ -6,8 +6,8 @@ use std::marker::Model;
 use std::rt::Files;
 use std::{fs, io};
 
-/// The real files, by their paths. Each read opens its file, so that nothing is held open between
-/// two reads. It tells no contents: that the system gives what the files hold is not proved.
+/// The real files, by their paths. Each read opens its file, so that no file stays open between
+/// two reads. It tells no contents: that the system gives the bytes of the files is not proved.
 ///
 /// Contracts see it as its count of faults, the same for each name.
 #[derive(Drop)]
@@ -42,9 +42,7 @@ fn read_from<R: Files>(rt: &R, name: &str, at: u64, buf: &mut [u8]) -> io::Resul
 }
 
 impl<'r, R: Files> Folder for RealFolder<'r, R> {
-    ghost held = { λ _ _. None };
-
-    ghost faults = { λ folder _. folder };
+    ghost state = { λ folder. record { files = None; faults = λ name. folder } };
 
     fn read_at(&mut self, name: &str, at: u64, buf: &mut [u8]) -> Result<usize, Failed> {
         match read_from(self.rt, name, at, buf) {
@@ -84,9 +82,7 @@ impl<W: Write> StreamSink<W> {
 }
 
 impl<W: Write> Sink for StreamSink<W> {
-    ghost contents = { λ _. None };
-
-    ghost faults = { λ sink. sink };
+    ghost state = { λ sink. record { contents = None; faults = sink } };
 
     // A write of nothing counts as a failure.
     fn write(&mut self, piece: &[u8]) -> Result<usize, Failed> {
@@ -97,42 +93,5 @@ impl<W: Write> Sink for StreamSink<W> {
             }
             Ok(count) => Ok(count),
         }
-    }
-}
-
-#[cfg(test)]
-mod tests {
-    use super::*;
-    use crate::{ReadError, read_file, write_all};
-    use std::test::Fail;
-
-    #[test]
-    fn the_real_ends_pass_every_byte_and_count_every_failure(rt: HostRuntime) -> Result<(), Fail> {
-        let alloc = rt.alloc();
-        std::fs::write(&rt, "file", "some bytes")?;
-        std::fs::create_dir(&rt, "folder")?;
-        let mut folder = RealFolder::new(&rt);
-        let whole = read_file(alloc, &mut folder, "file", 100);
-        assert!(rt; matches!(&whole, Ok(_)));
-        if let Ok(bytes) = whole {
-            assert_eq!(rt; bytes.as_slice(), b"some bytes".as_slice());
-        }
-        assert_eq!(rt; folder.faults, 0);
-        let missing = read_file(alloc, &mut folder, "missing", 100);
-        assert!(rt; matches!(&missing, Err(ReadError::Fault)));
-        assert_eq!(rt; folder.faults, 1);
-        let listing = read_file(alloc, &mut folder, "folder", 100);
-        assert!(rt; matches!(&listing, Err(ReadError::Fault)));
-        assert_eq!(rt; folder.faults, 2);
-
-        let mut sink = StreamSink::new(std::fs::create(&rt, "written")?);
-        assert!(rt; write_all(&mut sink, b"every byte").is_ok());
-        assert_eq!(rt; sink.faults, 0);
-        let text = std::fs::read_to_string(&rt, "written")?;
-        assert_eq!(rt; text.as_str(), "every byte");
-        let mut closed = StreamSink::new(std::fs::open(&rt, "file")?);
-        assert!(rt; write_all(&mut closed, b"none").is_err());
-        assert_eq!(rt; closed.faults, 1);
-        Ok(())
     }
 }

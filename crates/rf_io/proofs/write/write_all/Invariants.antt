@@ -5,8 +5,8 @@ use Rattle.rf_io.proofs.write.write_all.Given as goal
 abbrev pub invariant-loop-written : goal.invariant-loop-written
 invariant-loop-written g l = record {
   within : l.written ≤ length l.bytes;
-  told : Appends (g.S.Sink.contents l.initial.sink) (g.S.Sink.contents l.sink) (take l.written l.bytes);
-  later : g.S.Sink.faults l.initial.sink ≤ g.S.Sink.faults l.sink;
+  told : Appends (g.S.Sink.state l.initial.sink) (g.S.Sink.state l.sink) (take l.written l.bytes);
+  later : (g.S.Sink.state l.initial.sink).faults ≤ (g.S.Sink.state l.sink).faults;
 }
 
 abbrev pub decreases-loop-written : goal.decreases-loop-written
