@@ -1,3 +1,9 @@
-pub mod Answered
-pub mod Refused
-pub mod Commands
+pub mod Stores
+pub mod ByCommand
+pub mod Problems
+pub mod Opened
+pub mod Seconds
+pub mod Replies
+pub mod BadLines
+pub mod OneCommand
+pub mod Left

@@ -1,7 +1,10 @@
-pub mod Answer
+pub mod Accepted
+pub mod Answers
 pub mod Code
+pub mod Commands
+pub mod Ends
+pub mod Leaves
 pub mod Line
-pub mod Outcome
-pub mod Refuse
-pub mod Stop
-pub mod Words
+pub mod Refuses
+pub mod Stages
+pub mod Verdict

@@ -1,15 +1,17 @@
 -- The lines that name refusals on the error output.
 use Rattle.std.specs.Prelude.{ℕ, List, ◌++◌, codes, decimal}
 use Rattle.rf_lexer.specs.declared.error.LexError.{LexError}
-use Rattle.rf_lexer.specs.declared.error.LexError.TheVariants.{BadCharacter, OpenComment, OpenQuote, LongName, BigNumber, Memory as NoRoom}
+use Rattle.rf_lexer.specs.declared.error.LexError.TheVariants.{BadCharacter, OpenComment, OpenQuote, LongName, BigNumber}
 use Rattle.rf_limits.specs.declared.kind.LimitKind.{LimitKind}
 use Rattle.rf_limits.specs.declared.kind.LimitKind.TheVariants.{Classes, References, Predicates, Scopes, Parameters, Clauses, Literals, Variables, Objects, Assertions}
 use Rattle.rf_resolve.specs.declared.error.NameError.{NameError}
-use Rattle.rf_resolve.specs.declared.error.NameError.TheVariants.{Twice, Unknown, Ambiguous, ClassCycle, BadOpposite, BadContainer, BadRange, Arity, LooseVariable, Recursive, EqualsTwo, Limit, Memory as NoSpace}
+use Rattle.rf_resolve.specs.declared.error.NameError.TheVariants.{Twice, Unknown, Ambiguous, ClassCycle, BadOpposite, BadContainer, BadRange, Arity, LooseVariable, Recursive, EqualsTwo, Limit}
 use Rattle.rf_source.specs.declared.error.SourceError.{SourceError}
-use Rattle.rf_source.specs.declared.error.SourceError.TheVariants.{NotUtf8, Lexical, Unexpected, Names, Memory}
+use Rattle.rf_source.specs.declared.error.SourceError.TheVariants.{NotUtf8, Lexical, Unexpected, Names}
 use Rattle.rf_run.specs.declared.refusal.Refusal.{Refusal}
-use Rattle.rf_run.specs.declared.refusal.Refusal.TheVariants.{ProblemTooLong, Problem as NoProblem, GraphTooLong, BadLine}
+use Rattle.rf_run.specs.declared.refusal.Refusal.TheVariants.{TooLong, Problem as NoProblem, BadLine}
+use Rattle.rf_run.specs.declared.refusal.File.{File as Sort}
+use Rattle.rf_run.specs.declared.refusal.File.TheVariants.{Problem as OfProblem, Graph, Script, Tree}
 
 -- a fault of the problem at a byte place
 abbrev pub fault_line : List ℕ → ℕ → List ℕ
@@ -21,7 +23,6 @@ lexical_line (OpenComment at) = fault_line (codes "open comment") at
 lexical_line (OpenQuote at) = fault_line (codes "open quote") at
 lexical_line (LongName at) = fault_line (codes "long name") at
 lexical_line (BigNumber at) = fault_line (codes "big number") at
-lexical_line NoRoom = codes "out of memory\n"
 
 abbrev pub limit_word : LimitKind → List ℕ
 limit_word Classes = codes "limit classes"
@@ -48,7 +49,6 @@ name_line (LooseVariable at) = fault_line (codes "loose variable") at
 name_line (Recursive at) = fault_line (codes "recursive") at
 name_line (EqualsTwo at) = fault_line (codes "equals two") at
 name_line (Limit kind at) = fault_line (limit_word kind) at
-name_line NoSpace = codes "out of memory\n"
 
 -- why the bytes of the file are no problem; a token is counted from 0
 abbrev pub source_line : SourceError → List ℕ
@@ -56,11 +56,16 @@ source_line (NotUtf8 at) = fault_line (codes "not utf-8") at
 source_line (Lexical e) = lexical_line e
 source_line (Unexpected token at) = fault_line (codes "unexpected token " ++ decimal token) at
 source_line (Names e) = name_line e
-source_line Memory = codes "out of memory\n"
+
+-- the word for a file of this sort
+abbrev pub file_word : Sort → List ℕ
+file_word OfProblem = codes "problem"
+file_word Graph = codes "graph"
+file_word Script = codes "script"
+file_word Tree = codes "tree"
 
 -- the line on the error output that names a refusal
 abbrev pub line_of : Refusal → List ℕ
-line_of ProblemTooLong = codes "problem: too long\n"
-line_of (NoProblem e) = source_line e
-line_of GraphTooLong = codes "graph: too long\n"
-line_of (BadLine line) = codes "graph: bad line " ++ decimal line ++ codes "\n"
+line_of (TooLong sort) = file_word sort ++ codes ": too long\n"
+line_of (NoProblem fault) = source_line fault
+line_of (BadLine sort line) = file_word sort ++ codes ": bad line " ++ decimal line ++ codes "\n"

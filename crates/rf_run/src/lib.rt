@@ -3,16 +3,20 @@
 //! `run` is all that the program does. Its contract is what the program promises.
 #![tactic(auto)]
 
-mod answer;
-mod complain;
-mod file;
+mod check;
+mod end;
+mod ends;
+mod files;
+mod job;
+mod leave;
 mod lines;
 mod refusal;
 mod reply;
 mod status;
+mod stop;
 mod top;
-mod words;
 
-pub use refusal::Refusal;
+pub use end::{Cut, End, Reply, Sign};
+pub use refusal::{File, Refusal};
 pub use status::Status;
 pub use top::run;

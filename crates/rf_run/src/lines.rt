@@ -1,9 +1,9 @@
 //! The lines that name refusals on the error output.
 
 ghost use Rattle.std.specs.Prelude.{◌≡◌, ◌++◌, IfOk, codes, decimal};
-ghost use Rattle.rf_run.specs.Line.{fault_line, lexical_line, limit_word, line_of, name_line, source_line};
+ghost use Rattle.rf_run.specs.Line.{fault_line, file_word, lexical_line, limit_word, line_of, name_line, source_line};
 
-use crate::Refusal;
+use crate::{File, Refusal};
 use rf_lexer::LexError;
 use rf_resolve::{LimitKind, NameError};
 use rf_source::SourceError;
@@ -30,7 +30,6 @@ fn lexical_line(alloc: Global, error: LexError) -> Result<Text, AllocError>
         LexError::OpenQuote(at) => fault_line(alloc, "open quote", at),
         LexError::LongName(at) => fault_line(alloc, "long name", at),
         LexError::BigNumber(at) => fault_line(alloc, "big number", at),
-        LexError::Memory => Text::from_str(alloc, "out of memory\n"),
     }
 }
 
@@ -67,7 +66,6 @@ fn name_line(alloc: Global, error: NameError) -> Result<Text, AllocError>
         NameError::Recursive(at) => fault_line(alloc, "recursive", at),
         NameError::EqualsTwo(at) => fault_line(alloc, "equals two", at),
         NameError::Limit(kind, at) => fault_line(alloc, limit_word(kind), at),
-        NameError::Memory => Text::from_str(alloc, "out of memory\n"),
     }
 }
 
@@ -88,15 +86,34 @@ fn source_line(alloc: Global, error: SourceError) -> Result<Text, AllocError>
         SourceError::Lexical(error) => lexical_line(alloc, error),
         SourceError::Unexpected { token, at } => unexpected_line(alloc, token, at),
         SourceError::Names(error) => name_line(alloc, error),
-        SourceError::Memory => Text::from_str(alloc, "out of memory\n"),
     }
 }
 
-fn bad_line(alloc: Global, number: u64) -> Result<Text, AllocError>
-    ensures { IfOk result (λ text. text ≡ codes "graph: bad line " ++ decimal number
+fn file_word(sort: File) -> &'static str
+    ensures { result.now ≡ file_word sort }
+{
+    match sort {
+        File::Problem => "problem",
+        File::Graph => "graph",
+        File::Script => "script",
+        File::Tree => "tree",
+    }
+}
+
+fn too_long_line(alloc: Global, sort: File) -> Result<Text, AllocError>
+    ensures { IfOk result (λ text. text ≡ file_word sort ++ codes ": too long\n") }
+{
+    let mut text = Text::from_str(alloc, file_word(sort))?;
+    text.push_str(": too long\n")?;
+    Ok(text)
+}
+
+fn bad_line(alloc: Global, sort: File, number: u64) -> Result<Text, AllocError>
+    ensures { IfOk result (λ text. text ≡ file_word sort ++ codes ": bad line " ++ decimal number
         ++ codes "\n") }
 {
-    let mut text = Text::from_str(alloc, "graph: bad line ")?;
+    let mut text = Text::from_str(alloc, file_word(sort))?;
+    text.push_str(": bad line ")?;
     push_number(alloc, &mut text, number)?;
     text.push_str("\n")?;
     Ok(text)
@@ -107,9 +124,8 @@ pub fn line(alloc: Global, refusal: Refusal) -> Result<Text, AllocError>
     ensures { IfOk result (λ text. text ≡ line_of refusal) }
 {
     match refusal {
-        Refusal::ProblemTooLong => Text::from_str(alloc, "problem: too long\n"),
-        Refusal::Problem(error) => source_line(alloc, error),
-        Refusal::GraphTooLong => Text::from_str(alloc, "graph: too long\n"),
-        Refusal::BadLine(number) => bad_line(alloc, number),
+        Refusal::TooLong(sort) => too_long_line(alloc, sort),
+        Refusal::Problem(fault) => source_line(alloc, fault),
+        Refusal::BadLine(sort, number) => bad_line(alloc, sort, number),
     }
 }

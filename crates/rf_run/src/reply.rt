@@ -4,22 +4,17 @@ ghost use Rattle.std.specs.Prelude.{◌≡◌, ◌++◌, IfOk, OnOk};
 ghost use Rattle.rf_graph.specs.Graph.{Fits};
 ghost use Rattle.rf_graph.specs.Violations.{IsVerdict};
 ghost use Rattle.rf_graph.specs.declared.verdict.Verdict.{Verdict};
-ghost use Rattle.rf_run.specs.Answer.{IsNamed, IsPrintable, IsRight, is_yes, spaced, verdict_text, violation_text};
+ghost use Rattle.rf_run.specs.Answers.{IsRightVerdict};
+ghost use Rattle.rf_run.specs.Verdict.{IsNamed, IsPrintable, sign_of, spaced, verdict_text, violation_text};
 
+use crate::end::{Reply, Sign};
 use rf_graph::{Graph, Verdict, Violation, push_object, push_reference, push_symbol};
 use rf_problem::Problem;
 use rf_satisfy::judge;
 use rf_text::{Text, push_number};
 use std::alloc::{AllocError, Global};
 
-/// What is written on the output, and whether it is a yes.
-#[derive(Debug, Drop)]
-pub struct Reply {
-    pub text: Text,
-    pub is_yes: bool,
-}
-
-// Appends numbers, each behind a space, or, where memory runs out, a part of them.
+// Appends numbers, each after a space, or, where memory runs out, a part of them.
 fn push_spaced(alloc: Global, out: &mut Text, numbers: &[u64]) -> Result<(), AllocError>
     ensures { OnOk result (out.new ≡ out.old ++ spaced numbers.now) }
 {
@@ -88,12 +83,12 @@ fn push_violation(
 fn reply_with(alloc: Global, problem: &Problem, verdict: Verdict) -> Result<Reply, AllocError>
     requires { IsPrintable problem.now verdict }
     ensures text { IfOk result (λ reply. reply.text ≡ verdict_text problem.now verdict) }
-    ensures sign { IfOk result (λ reply. reply.is_yes ≡ is_yes verdict) }
+    ensures sign { IfOk result (λ reply. reply.sign ≡ sign_of verdict) }
 {
     match verdict {
         Verdict::Satisfied => Ok(Reply {
             text: Text::from_str(alloc, "satisfied\n")?,
-            is_yes: true,
+            sign: Sign::Yes,
         }),
         Verdict::Violated(violation) => {
             let mut text = Text::from_str(alloc, "violated ")?;
@@ -101,7 +96,7 @@ fn reply_with(alloc: Global, problem: &Problem, verdict: Verdict) -> Result<Repl
             text.push_str("\n")?;
             Ok(Reply {
                 text,
-                is_yes: false,
+                sign: Sign::No,
             })
         }
     }
@@ -111,11 +106,11 @@ fn reply_with(alloc: Global, problem: &Problem, verdict: Verdict) -> Result<Repl
 pub fn reply_to(alloc: Global, problem: &Problem, graph: &Graph) -> Result<Reply, AllocError>
     requires { Fits problem.now graph.now }
     ensures judged { IfOk result (λ reply. (v : Verdict) × IsVerdict problem.now graph.now v
-        × (reply.text ≡ verdict_text problem.now v) × (reply.is_yes ≡ is_yes v)) }
-    ensures right { IfOk result (λ reply. IsRight problem.now graph.now reply.is_yes) }
+        × (reply.text ≡ verdict_text problem.now v) × (reply.sign ≡ sign_of v)) }
+    ensures right { IfOk result (λ reply. IsRightVerdict problem.now graph.now reply.sign) }
     ensures same { (v : Verdict) → IsVerdict problem.now graph.now v
-        → IfOk result (λ reply. (reply.text ≡ verdict_text problem.now v) × (reply.is_yes
-        ≡ is_yes v)) }
+        → IfOk result (λ reply. (reply.text ≡ verdict_text problem.now v) × (reply.sign
+        ≡ sign_of v)) }
 {
     match judge(alloc, problem, graph) {
         Ok(verdict) => reply_with(alloc, problem, verdict),

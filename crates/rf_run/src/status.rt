@@ -8,7 +8,7 @@ pub enum Status {
     Yes = 0,
     /// The command's no.
     No = 1,
-    /// The words are no command.
+    /// The words aren't a command.
     Usage = 2,
     /// The input was refused by name.
     Refused = 3,

@@ -1,24 +1,29 @@
-ghost use Rattle.std.specs.Prelude.{◌≡◌, ◌↔◌, ◌⊎◌, ◌≤◌, List, ℕ, None, Some};
+ghost use Rattle.std.specs.Prelude.{◌≡◌, ◌≤◌, ◌⊎◌};
 ghost use Rattle.rf_io.specs.Causes.{Rose};
-ghost use Rattle.rf_io.specs.Folder.{SameHeld, NoneFell};
-ghost use Rattle.rf_run.specs.Answer.{Answers, IsAccepted, IsDrawn};
-ghost use Rattle.rf_run.specs.Outcome.{Wrote, Complained, IsRefusedAs, IsRightStatus, status_of};
-ghost use Rattle.rf_run.specs.Refuse.{RefusesProblem, RefusesGraph};
-ghost use Rattle.rf_run.specs.Words.{FileRose, ProblemRose, files_of, problem_told, graph_told};
+ghost use Rattle.rf_io.specs.Folder.{NoneFell, SameFiles};
+ghost use Rattle.rf_problem.specs.declared.problem.Problem.{Problem};
+ghost use Rattle.rf_words.specs.Meaning.{IsCommand};
+ghost use Rattle.rf_words.specs.declared.request.Command.{Command};
+ghost use Rattle.rf_run.specs.Commands.{IsBuilt};
+ghost use Rattle.rf_run.specs.Ends.{AFileFailed, Ends, HasEnd, Input, IsStoredInput, IsSubject, MissesFile, WasRead};
+ghost use Rattle.rf_run.specs.Leaves.{CameTo, Complained, IsRightEnd, NoWriteFailed, Wrote};
+ghost use Rattle.rf_run.specs.declared.end.End.{End};
 
 use crate::Status;
-use crate::answer::answer;
-use crate::complain::{complain, say};
-use rf_io::{Folder, Sink, write_all};
+use crate::ends::end_of;
+use crate::leave::{leave, leave_cut};
+use rf_io::{Folder, Sink};
 use rf_text::Text;
 use std::alloc::Global;
 
-/// Runs the program on the words behind its name: what it answers goes to `out`, why it has no answer
+/// Runs the program on the words after its name: what it answers goes to `out`, why it has no answer
 /// to `err`, and the status says how it ended.
 ///
-/// In the clauses, what is told of a file are the bytes that the folder tells under the name that the
-/// words give. A read that failed shows in the count of faults of its name, a write that failed in
-/// that of its sink. Want of memory may end any run; the contract says what it leaves.
+/// The clauses speak of how a run ends by its words and its input, the bytes of the files that the
+/// words name (`specs/Ends`), and of what each end leaves (`specs/Leaves`). They hold for every folder
+/// and every sink; where a folder doesn't tell what it stores, an input is one that its reads may have
+/// given. A read that failed shows in the count of faults of its name, a write that failed in that of
+/// its sink. Running out of memory may end any run; the contract says what it leaves.
 pub fn run<F: Folder, O: Sink, E: Sink>(
     alloc: Global,
     words: &[Text],
@@ -26,67 +31,45 @@ pub fn run<F: Folder, O: Sink, E: Sink>(
     out: &mut O,
     err: &mut E,
 ) -> Status
-    // What stands on the output and on the error output, by the status.
-    ensures wrote { Wrote
-        (problem_told (F.held folder.old) words.now) (graph_told (F.held folder.old) words.now)
-        (O.contents out.old) (O.contents out.new) result }
-    ensures complained { Complained
-        (problem_told (F.held folder.old) words.now) (graph_told (F.held folder.old) words.now)
-        (E.faults err.old) (E.faults err.new) (E.contents err.old) (E.contents err.new) result }
+    // What stands on the output and on the error output, by the status: each status has an end that
+    // the words have on what is told.
+    ensures wrote { Wrote (HasEnd words.now (F.state folder.old))
+        (O.state out.old) (O.state out.new) result }
+    ensures complained { Complained (HasEnd words.now (F.state folder.old))
+        (E.state err.old) (E.state err.new) result }
 
-    // A yes and a no are right, even where a call failed earlier in the run.
-    ensures right { (a : _) (b : _) (p : _) (g : _)
-        → problem_told (F.held folder.old) words.now ≡ Some a
-        → graph_told (F.held folder.old) words.now ≡ Some b
-        → IsAccepted a p → IsDrawn b p g → IsRightStatus p g result }
+    // What is answered is right in the user's words, even where a call failed earlier in the run.
+    ensures right { (c : Command) (i : Input) (p : Problem) → IsBuilt c → IsCommand words.now c
+        → IsStoredInput (F.state folder.old) c i
+        → IsSubject c i p
+        → Wrote (IsRightEnd c p i.second) (O.state out.old) (O.state out.new) result }
 
-    // The causes of the other statuses.
-    ensures usage { result ≡ Status.Usage → files_of words.now ≡ None }
-    ensures no_command { files_of words.now ≡ None
-        → (result ≡ Status.Usage) ⊎ (result ≡ Status.NoMemory) }
+    // The causes of faults, and what a missing file gets.
     ensures read { result ≡ Status.ReadFault
-        → FileRose (F.faults folder.old) (F.faults folder.new) words.now }
-    ensures write { result ≡ Status.WriteFault → Rose (O.faults out.old) (O.faults out.new) }
+        → AFileFailed words.now (F.state folder.old) (F.state folder.new) }
+    ensures write { result ≡ Status.WriteFault
+        → Rose (O.state out.old).faults (O.state out.new).faults }
+    ensures missing { (c : Command) → IsBuilt c → IsCommand words.now c
+        → MissesFile (F.state folder.old) c
+        → (result ≡ Status.ReadFault) ⊎ (result ≡ Status.NoMemory) }
 
-    // Where no count of a file that the words name rose, a file that is cause for a refusal is refused
-    // so, and two files that have an answer are answered so, unless a write failed. A problem is
-    // refused whether or not the graph file can be read.
-    ensures refuses_problem { (a : _) (r : _)
-        → problem_told (F.held folder.old) words.now ≡ Some a
-        → RefusesProblem a r
-        → (ProblemRose (F.faults folder.old) (F.faults folder.new) words.now → ⊥)
-        → IsRefusedAs r (E.faults err.old) (E.faults err.new)
-        (E.contents err.old) (E.contents err.new) result }
-    ensures refuses_graph { (a : _) (b : _) (r : _)
-        → problem_told (F.held folder.old) words.now ≡ Some a
-        → graph_told (F.held folder.old) words.now ≡ Some b
-        → RefusesGraph a b r
-        → (FileRose (F.faults folder.old) (F.faults folder.new) words.now → ⊥)
-        → IsRefusedAs r (E.faults err.old) (E.faults err.new)
-        (E.contents err.old) (E.contents err.new) result }
-    ensures answers { (a : _) (b : _) (text : _) (yes_or_no : _)
-        → problem_told (F.held folder.old) words.now ≡ Some a
-        → graph_told (F.held folder.old) words.now ≡ Some b
-        → Answers a b text yes_or_no
-        → (FileRose (F.faults folder.old) (F.faults folder.new) words.now → ⊥)
-        → (Rose (O.faults out.old) (O.faults out.new) → ⊥)
-        → (result ≡ status_of yes_or_no) ⊎ (result ≡ Status.NoMemory) }
+    // An end that the words have on the told bytes is reached, or memory ran out, where no read
+    // failed of a file that is read before that end, and, for an answer, no write of it.
+    ensures complete { (i : Input) (end : End) → Ends words.now i end
+        → ((c : Command) → IsBuilt c → IsCommand words.now c
+        → WasRead (F.state folder.old) (F.state folder.new) c i end)
+        → NoWriteFailed end (O.state out.old) (O.state out.new)
+        → CameTo end result (O.state out.old) (O.state out.new)
+        (E.state err.old) (E.state err.new) }
 
-    // The folder holds what it held, and no count of faults fell.
-    ensures same { SameHeld (F.held folder.old) (F.held folder.new) }
-    ensures folder_later { NoneFell (F.faults folder.old) (F.faults folder.new) }
-    ensures out_later { O.faults out.old ≤ O.faults out.new }
-    ensures err_later { E.faults err.old ≤ E.faults err.new }
+    // The folder tells the same as before, and no count of faults fell.
+    ensures same { SameFiles (F.state folder.old) (F.state folder.new) }
+    ensures folder_later { NoneFell (F.state folder.old) (F.state folder.new) }
+    ensures out_later { (O.state out.old).faults ≤ (O.state out.new).faults }
+    ensures err_later { (E.state err.old).faults ≤ (E.state err.new).faults }
 {
-    match answer(alloc, words, folder) {
-        Ok(reply) => match write_all(out, reply.text.as_str().as_bytes()) {
-            Ok(()) if reply.is_yes => Status::Yes,
-            Ok(()) => Status::No,
-            Err(_) => {
-                say(err, "write fault\n");
-                Status::WriteFault
-            }
-        },
-        Err(stop) => complain(alloc, stop, err),
+    match end_of(alloc, words, folder) {
+        Ok(end) => leave(alloc, end, out, err),
+        Err(cut) => leave_cut(cut, err),
     }
 }

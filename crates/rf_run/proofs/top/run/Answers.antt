@@ -1,32 +1,29 @@
-use Rattle.std.proofs.Common.{◌≡◌, ◌∙◌, Bool, true, false, Err, inl, inr, ap, refl, sym}
-use Rattle.rf_run.specs.Outcome.{status_of}
-use Rattle.rf_run.specs.declared.status.Status.TheVariants.{Yes, No}
+use Rattle.std.proofs.Common.{◌≡◌, sym, subst}
+use Rattle.rf_run.specs.Ends.{HasEnd}
+use Rattle.rf_run.specs.Leaves.{IsRightEnd}
+use Rattle.rf_run.proofs.Left.{came_to, complained_as, wrote_as}
 use Rattle.rf_run.proofs.top.run.Goals as goal
 
-pub returns-clause-answers : goal.returns-clause-answers
-returns-clause-answers g c = λ a b text sign p_told g_told answers unread unwritten.
-    let cut = c.in-Err.ensures.answered a b text sign p_told g_told answers in
-    elim (c.complain.ensures.cut_short cut) [
-      | inl e ↦ absurd (unread (c.in-Err.ensures.fault (ap Err (c.complain.ensures.fault e))))
-      | inr e ↦ inr e
-    ]
+pub returns-in-Ok-clause-wrote : goal.returns-in-Ok-clause-wrote
+returns-in-Ok-clause-wrote g c =
+    wrote_as (λ e. e ≡ c.in-Ok.end) (HasEnd c.args.words.now (g.F.Folder.state c.args.folder.now))
+    (λ e is. subst (HasEnd c.args.words.now (g.F.Folder.state c.args.folder.now)) (sym is) c.in-Ok.ensures.ended)
+    (g.O.Sink.state c.args.out.now) (g.O.Sink.state c.leave.new.out) c.leave.result c.leave.ensures.wrote
 
-pub returns-in-Ok-write_all-clause-right : goal.returns-in-Ok-write_all-clause-right
-returns-in-Ok-write_all-clause-right g c = λ a b p h p_told g_told accepted drawn.
-    rw c.if-reply.true at (c.in-Ok.ensures.right a b p h p_told g_told accepted drawn)
+pub returns-in-Ok-clause-complained : goal.returns-in-Ok-clause-complained
+returns-in-Ok-clause-complained g c =
+    complained_as (λ e. e ≡ c.in-Ok.end) (HasEnd c.args.words.now (g.F.Folder.state c.args.folder.now))
+    (λ e is. subst (HasEnd c.args.words.now (g.F.Folder.state c.args.folder.now)) (sym is) c.in-Ok.ensures.ended)
+    (g.E.Sink.state c.args.err.now) (g.E.Sink.state c.leave.new.err) c.leave.result c.leave.ensures.complained
 
-pub returns-in-Ok-2-clause-right : goal.returns-in-Ok-2-clause-right
-returns-in-Ok-2-clause-right g c = λ a b p h p_told g_told accepted drawn.
-    rw c.if-reply.false at (c.in-Ok.ensures.right a b p h p_told g_told accepted drawn)
+pub returns-in-Ok-clause-right : goal.returns-in-Ok-clause-right
+returns-in-Ok-clause-right g c = λ d i p built is stored subject.
+    wrote_as (λ e. e ≡ c.in-Ok.end) (IsRightEnd d p i.second)
+    (λ e same. subst (IsRightEnd d p i.second) (sym same) (c.in-Ok.ensures.right d i p built is stored subject))
+    (g.O.Sink.state c.args.out.now) (g.O.Sink.state c.leave.new.out) c.leave.result c.leave.ensures.wrote
 
-pub returns-in-Ok-write_all-clause-answers : goal.returns-in-Ok-write_all-clause-answers
-returns-in-Ok-write_all-clause-answers g c = λ a b text sign p_told g_told answers unread unwritten.
-    let both = c.in-Ok.ensures.answered a b text sign p_told g_told answers in
-    let yes : Yes ≡ status_of sign = ap status_of (sym c.if-reply.true ∙ both.1) in
-    inl yes
-
-pub returns-in-Ok-2-clause-answers : goal.returns-in-Ok-2-clause-answers
-returns-in-Ok-2-clause-answers g c = λ a b text sign p_told g_told answers unread unwritten.
-    let both = c.in-Ok.ensures.answered a b text sign p_told g_told answers in
-    let no : No ≡ status_of sign = ap status_of (sym c.if-reply.false ∙ both.1) in
-    inl no
+pub returns-in-Ok-clause-complete : goal.returns-in-Ok-clause-complete
+returns-in-Ok-clause-complete g c = λ i end ends was unfailed.
+    came_to c.in-Ok.end end c.leave.result (g.O.Sink.state c.args.out.now) (g.O.Sink.state c.leave.new.out) (g.E.Sink.state c.args.err.now) (g.E.Sink.state c.leave.new.err)
+    (c.in-Ok.ensures.complete i end ends was) c.leave.ensures.status c.leave.ensures.wrote
+    c.leave.ensures.complained unfailed

@@ -1,0 +1,38 @@
+-- What each command answers, and what its answers promise to the user.
+use Rattle.std.specs.Prelude.{◌≡◌, ℕ, List}
+use Rattle.rf_problem.specs.declared.problem.Problem.{Problem}
+use Rattle.rf_graph.specs.Violations.{IsVerdict, Sat}
+use Rattle.rf_graph.specs.declared.graph.Graph.{Graph}
+use Rattle.rf_graph.specs.declared.verdict.Verdict.{Verdict}
+use Rattle.rf_words.specs.declared.request.Command.{Command}
+use Rattle.rf_words.specs.declared.request.Command.TheVariants.{Check}
+use Rattle.rf_run.specs.declared.end.Reply.{Reply}
+use Rattle.rf_run.specs.declared.end.Sign.{Sign}
+use Rattle.rf_run.specs.declared.end.Sign.TheVariants.{Yes, No, Unfinished}
+use Rattle.rf_run.specs.Accepted.{IsDrawn}
+use Rattle.rf_run.specs.Verdict.{sign_of, verdict_text}
+
+-- `check` answers the verdict on the graph
+pub record AnswersCheck (p : Problem) (second : List ℕ) (reply : Reply) : Type 0 where
+  pub graph : Graph
+  pub verdict : Verdict
+  pub drawn : IsDrawn second p graph
+  pub judged : IsVerdict p graph verdict
+  pub text : reply.text ≡ verdict_text p verdict
+  pub sign : reply.sign ≡ sign_of verdict
+
+-- the answer of a command on its problem and the bytes of its second file
+abbrev pub Answers : Command → Problem → List ℕ → Reply → Type 0
+Answers (Check file graph) p second reply = AnswersCheck p second reply
+Answers _ p second reply = ⊥
+
+-- a yes says that the graph satisfies the problem, a no that it doesn't
+abbrev pub IsRightVerdict : Problem → Graph → Sign → Type 0
+IsRightVerdict p g Yes = Sat p g
+IsRightVerdict p g No = Sat p g → ⊥
+IsRightVerdict p g Unfinished = ⊥
+
+-- what an answer promises, in the user's words
+abbrev pub IsRight : Command → Problem → List ℕ → Reply → Type 0
+IsRight (Check file graph) p second reply = (g : Graph) → IsDrawn second p g → IsRightVerdict p g reply.sign
+IsRight _ p second reply = ⊥

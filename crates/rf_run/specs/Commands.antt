@@ -1,0 +1,44 @@
+-- Which files a command reads, and which commands are built.
+use Rattle.std.specs.Prelude.{ℕ, List, [], ◌∷◌, ◌++◌, Option, None, Some}
+use Rattle.std.specs.Option.{option_map}
+use Rattle.rf_words.specs.declared.request.Command.{Command}
+use Rattle.rf_words.specs.declared.request.Command.TheVariants.{Generate, Check, Verify, Evaluate, Session, Grow}
+use Rattle.rf_run.specs.declared.refusal.File.{File as Sort}
+use Rattle.rf_run.specs.declared.refusal.File.TheVariants.{Graph, Script, Tree}
+use Rattle.rf_run.specs.declared.refusal.TheConstants.{GRAPH_LIMIT, SCRIPT_LIMIT, TREE_LIMIT}
+
+-- the commands that are built; the words of the others are answered as usage
+abbrev pub IsBuilt : Command → Type 0
+IsBuilt (Check file graph) = Unit {0}
+IsBuilt _ = ⊥
+
+-- the file of the problem
+abbrev pub problem_file : Command → Option (List ℕ)
+problem_file (Generate file seed budget json) = Some file
+problem_file (Check file graph) = Some file
+problem_file (Verify file tree) = Some file
+problem_file (Evaluate file) = Some file
+problem_file (Session file script) = Some file
+problem_file (Grow n) = None
+
+-- a file that is read after the problem: its name, what it is read as, and the most bytes that it may have
+pub record SecondFile : Type 0 where
+  pub name : List ℕ
+  pub sort : Sort
+  pub limit : ℕ
+
+-- the second file
+abbrev pub second_file : Command → Option SecondFile
+second_file (Check file graph) = Some (record { name = graph; sort = Graph; limit = GRAPH_LIMIT })
+second_file (Verify file tree) = Some (record { name = tree; sort = Tree; limit = TREE_LIMIT })
+second_file (Session file script) = Some (record { name = script; sort = Script; limit = SCRIPT_LIMIT })
+second_file _ = None
+
+-- the one thing, or nothing, as a list
+abbrev pub as_list : {A : Type 0} → Option A → List A
+as_list None = []
+as_list (Some a) = a ∷ []
+
+-- the files that a command reads, in this order
+abbrev pub files_of : Command → List (List ℕ)
+files_of c = as_list (problem_file c) ++ as_list (option_map (λ s. s.name) (second_file c))

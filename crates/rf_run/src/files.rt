@@ -1,0 +1,119 @@
+//! A job over the files of a folder.
+
+ghost use Rattle.std.specs.Prelude.{◌≡◌, ◌⊎◌, ℕ, List, Contains, IfOk, IfErr, IsErr, IsErrOf, IsErrAnd, MatchResult};
+ghost use Rattle.rf_io.specs.Folder.{IsTold, NoneFell, ReadFailed, SameFiles, Stores};
+ghost use Rattle.rf_problem.specs.declared.problem.Problem.{Problem};
+ghost use Rattle.rf_run.specs.Accepted.{IsAccepted};
+ghost use Rattle.rf_run.specs.Commands.{files_of};
+ghost use Rattle.rf_run.specs.Ends.{EndsAs, Input, IsStoredInput, IsSubject, MissesFile, WasRead};
+ghost use Rattle.rf_run.specs.Leaves.{IsRightEnd};
+ghost use Rattle.rf_run.specs.Refuses.{RefusesProblem};
+ghost use Rattle.rf_run.specs.Stages.{EndsOver, IsCut, IsLongSecond, IsSecond, SecondFailed, second_of, stop_of_read};
+ghost use Rattle.rf_run.specs.declared.end.End.{End};
+
+use crate::end::{Cut, End};
+use crate::job::{Job, Second};
+use crate::refusal::PROBLEM_LIMIT;
+use crate::stop::Stop;
+use crate::{File, Refusal};
+use rf_failure::Failure;
+use rf_io::{Folder, ReadError, read_file};
+use rf_problem::Problem;
+use rf_source::read_source;
+use std::alloc::Global;
+
+fn stop_of(error: ReadError, sort: File) -> Stop
+    ensures { result ≡ stop_of_read error sort }
+{
+    match error {
+        ReadError::TooLong => Stop::Refused(Refusal::TooLong(sort)),
+        ReadError::Fault => Stop::Cut(Cut::ReadFault),
+        ReadError::Memory => Stop::Cut(Cut::Memory),
+    }
+}
+
+// The problem in a file.
+fn open_problem<F: Folder>(alloc: Global, folder: &mut F, name: &str) -> Result<Problem, Stop>
+    ensures ok { IfOk result (λ p. (bytes : List ℕ) × IsTold (F.state folder.old) name.now bytes
+        × IsAccepted bytes p) }
+    ensures refused { IfErr result (λ stop. (r : _) → stop ≡ Stop.Refused r
+        → (bytes : List ℕ) × IsTold (F.state folder.old) name.now bytes × RefusesProblem bytes r) }
+    ensures fault { IsErrOf result (Stop.Cut Cut.ReadFault)
+        → ReadFailed (F.state folder.old) (F.state folder.new) name.now }
+
+    // What is told decides, but for a run that is cut short.
+    ensures accepted { (bytes : _) (p : _) → Stores (F.state folder.old) name.now bytes
+        → IsAccepted bytes p → MatchResult result (λ q. q ≡ p) IsCut }
+    ensures refuses { (bytes : _) (r : _) → Stores (F.state folder.old) name.now bytes
+        → RefusesProblem bytes r
+        → IsErrAnd result (λ stop. (stop ≡ Stop.Refused r) ⊎ IsCut stop) }
+
+    ensures same { SameFiles (F.state folder.old) (F.state folder.new) }
+    ensures later { NoneFell (F.state folder.old) (F.state folder.new) }
+{
+    match read_file(alloc, folder, name, PROBLEM_LIMIT as usize) {
+        Ok(bytes) => match read_source(alloc, bytes.as_slice()) {
+            Ok(problem) => Ok(problem),
+            Err(Failure::Fault(fault)) => Err(Stop::Refused(Refusal::Problem(fault))),
+            Err(Failure::Memory) => Err(Stop::Cut(Cut::Memory)),
+        },
+        Err(error) => Err(stop_of(error, File::Problem)),
+    }
+}
+
+// The bytes of the second file, none where there is no such file.
+fn read_second<F: Folder>(
+    alloc: Global,
+    folder: &mut F,
+    second: Option<Second<'_>>,
+) -> Result<Vec<u8>, Stop>
+    ensures ok { IfOk result (λ bytes. IsSecond (F.state folder.old) (second_of second.entry) bytes.items) }
+    ensures refused { IfErr result (λ stop. (r : _) → stop ≡ Stop.Refused r
+        → IsLongSecond (F.state folder.old) (second_of second.entry) r) }
+    ensures fault { IsErrOf result (Stop.Cut Cut.ReadFault)
+        → SecondFailed (F.state folder.old) (F.state folder.new) (second_of second.entry) }
+    ensures same { SameFiles (F.state folder.old) (F.state folder.new) }
+    ensures later { NoneFell (F.state folder.old) (F.state folder.new) }
+{
+    let Some(file) = second else {
+        return Ok(Vec::new(alloc));
+    };
+    match read_file(alloc, folder, file.name, file.limit as usize) {
+        Ok(bytes) => Ok(bytes),
+        Err(error) => Err(stop_of(error, file.sort)),
+    }
+}
+
+/// How a job ends over its files.
+pub fn over_files<F: Folder, J: Job>(alloc: Global, folder: &mut F, job: &J) -> Result<End, Cut>
+    ensures ended { IfOk result (EndsOver (F.state folder.old) (J.command job.now)) }
+    ensures right { (i : Input) (p : Problem) → IsStoredInput (F.state folder.old) (J.command job.now) i
+        → IsSubject (J.command job.now) i p
+        → IfOk result (IsRightEnd (J.command job.now) p i.second) }
+    ensures fault { IsErrOf result Cut.ReadFault → (name : List ℕ)
+        × Contains (files_of (J.command job.now)) name
+        × ReadFailed (F.state folder.old) (F.state folder.new) name }
+    ensures missing { MissesFile (F.state folder.old) (J.command job.now) → IsErr result }
+
+    // What is told decides, unless a read failed or memory ran out.
+    ensures complete { (i : Input) (end : End) → EndsAs (J.command job.now) i end
+        → WasRead (F.state folder.old) (F.state folder.new) (J.command job.now) i end
+        → MatchResult result (λ e. e ≡ end) (λ cut. cut ≡ Cut.Memory) }
+
+    ensures same { SameFiles (F.state folder.old) (F.state folder.new) }
+    ensures later { NoneFell (F.state folder.old) (F.state folder.new) }
+{
+    let problem = match open_problem(alloc, folder, job.problem_file()) {
+        Ok(problem) => problem,
+        Err(stop) => return stop.end(),
+    };
+    let second = match read_second(alloc, folder, job.second_file()) {
+        Ok(second) => second,
+        Err(stop) => return stop.end(),
+    };
+    match job.answer(alloc, &problem, second.as_slice()) {
+        Ok(reply) => Ok(End::Answered(reply)),
+        Err(Failure::Fault(refusal)) => Ok(End::Refused(refusal)),
+        Err(Failure::Memory) => Err(Cut::Memory),
+    }
+}
