@@ -4,7 +4,7 @@ use Rattle.std.specs.Str.{chars, is_utf8}
 use Rattle.rf_text.specs.Identifier.{is_identifier}
 use Rattle.rf_text.specs.Keyword.{is_keyword}
 
--- a name that may stand between quotes
+-- a name that may be written between quotes
 pub record CanBeQuoted (name : List ℕ) : Type 0 where
   pub no_quote : All (λ b. b ≢ 39) name
   pub no_line_feed : All (λ b. b ≢ 10) name
@@ -23,7 +23,7 @@ written_name name = if is_bare name then name else 39 ∷ (name ++ 39 ∷ [])
 abbrev pub ends_name : ℕ → Bool
 ends_name b = (b == 32) || ((b == 58) || (b == 10))
 
--- what may stand behind a written name: nothing, or what begins with a space, a colon or a line feed
+-- what may follow a written name: nothing, or what begins with a space, a colon or a line feed
 abbrev pub EndsName : List ℕ → Type 0
 EndsName [] = Unit {0}
 EndsName (b ∷ bs) = IsTrue (ends_name b)
