@@ -4,31 +4,31 @@ use Rattle.std.proofs.Common.{◌≡◌, ◌≢◌, ◌∙◌, ℕ, ◌≤◌, �
 use Rattle.rf_text.specs.Identifier.{EachPasses}
 use Rattle.rf_lexer.specs.Characters.{StopsAt}
 
--- the longer of two fronts goes on where the shorter ends
-pub longer_front :
+-- the longer of two prefixes goes on where the shorter ends
+pub longer_prefix :
     (a b r s : List ℕ) → length a ≤ length b → a ++ r ≡ b ++ s → (z : List ℕ) × (b ≡ a ++ z) × (r ≡ z ++ s)
-longer_front [] b r s h e = (b, refl, e)
-longer_front (x ∷ a) [] r s h e = absurd (omega arith)
-longer_front (x ∷ a) (y ∷ b) r s h e =
+longer_prefix [] b r s h e = (b, refl, e)
+longer_prefix (x ∷ a) [] r s h e = absurd (omega arith)
+longer_prefix (x ∷ a) (y ∷ b) r s h e =
     let tails : a ++ r ≡ b ++ s = cc in
     let heads : x ≡ y = cc in
-    let ih = longer_front a b r s (omega arith) tails in
+    let ih = longer_prefix a b r s (omega arith) tails in
     let same : b ≡ a ++ ih.0 = ih.1 in
     (ih.0, cc, ih.2)
 
--- fronts of one length are one
-pub same_front : (a b r s : List ℕ) → length a ≡ length b → a ++ r ≡ b ++ s → (a ≡ b) × (r ≡ s)
-same_front [] [] r s h e = (refl, e)
-same_front [] (y ∷ b) r s h e = absurd (omega arith)
-same_front (x ∷ a) [] r s h e = absurd (omega arith)
-same_front (x ∷ a) (y ∷ b) r s h e =
+-- prefixes of one length are one
+pub same_prefix : (a b r s : List ℕ) → length a ≡ length b → a ++ r ≡ b ++ s → (a ≡ b) × (r ≡ s)
+same_prefix [] [] r s h e = (refl, e)
+same_prefix [] (y ∷ b) r s h e = absurd (omega arith)
+same_prefix (x ∷ a) [] r s h e = absurd (omega arith)
+same_prefix (x ∷ a) (y ∷ b) r s h e =
     let tails : a ++ r ≡ b ++ s = cc in
     let heads : x ≡ y = cc in
-    let ih = same_front a b r s (omega arith) tails in
+    let ih = same_prefix a b r s (omega arith) tails in
     let same : a ≡ b = ih.0 in
     (cc, ih.1)
 
--- no front whose characters pass is longer than one behind which none passes
+-- no prefix whose characters pass is longer than one after which none passes
 pub span_longest :
     (p : ℕ → Bool) (a b r s : List ℕ) → EachPasses p b → StopsAt p r → a ++ r ≡ b ++ s → length b ≤ length a
 span_longest p a [] r s each stops e = omega arith
@@ -42,14 +42,14 @@ span_longest p (x ∷ a) (y ∷ b) r s each stops e =
     let ih = span_longest p a b r s each.1 stops tails in
     omega arith
 
--- two such fronts are one
+-- two such prefixes are one
 pub span_same :
     (p : ℕ → Bool) (a b r s : List ℕ) → EachPasses p a → StopsAt p r → EachPasses p b → StopsAt p s → a ++ r ≡ b ++ s →
     (a ≡ b) × (r ≡ s)
 span_same p a b r s each stops every ends e =
     let short = span_longest p a b r s every stops e in
     let long = span_longest p b a s r each ends (sym e) in
-    same_front a b r s (omega arith) e
+    same_prefix a b r s (omega arith) e
 
 -- one more character
 pub regrouped : (a : List ℕ) (x : ℕ) (r : List ℕ) → a ++ x ∷ r ≡ (a ++ x ∷ []) ++ r
@@ -62,49 +62,49 @@ EachPasses-push p (y ∷ a) x each passes = (each.0, EachPasses-push p a x each.
 pub length-push : (a : List ℕ) (x : ℕ) → length (a ++ x ∷ []) ≡ length a + 1
 length-push a x = omega (arith, length-append a (x ∷ []))
 
--- two lists begin with the same front, and go on so
-pub record SameFront (xs ys r s : List ℕ) : Type 0 where
-  pub front : List ℕ
-  pub first : xs ≡ front ++ r
-  pub second : ys ≡ front ++ s
+-- two lists begin with the same prefix, and go on so
+pub record SamePrefix (xs ys r s : List ℕ) : Type 0 where
+  pub prefix : List ℕ
+  pub first : xs ≡ prefix ++ r
+  pub second : ys ≡ prefix ++ s
 
-pub same_front_none : (xs ys : List ℕ) → SameFront xs ys xs ys
-same_front_none xs ys = record { front = []; first = refl; second = refl }
+pub same_prefix_none : (xs ys : List ℕ) → SamePrefix xs ys xs ys
+same_prefix_none xs ys = record { prefix = []; first = refl; second = refl }
 
-pub same_front_more :
-    (xs ys r s : List ℕ) (c d : ℕ) (after others : List ℕ) → SameFront xs ys r s → r ≡ c ∷ after → s ≡ d ∷ others → c ≡ d →
-    SameFront xs ys after others
-same_front_more xs ys r s c d after others so_far e f same =
+pub same_prefix_more :
+    (xs ys r s : List ℕ) (c d : ℕ) (after others : List ℕ) → SamePrefix xs ys r s → r ≡ c ∷ after → s ≡ d ∷ others → c ≡ d →
+    SamePrefix xs ys after others
+same_prefix_more xs ys r s c d after others so_far e f same =
     let next : r ≡ d ∷ after = cc in
     record {
-      front = so_far.front ++ d ∷ [];
-      first = so_far.first ∙ ap (λ l. so_far.front ++ l) next ∙ regrouped so_far.front d after;
-      second = so_far.second ∙ ap (λ l. so_far.front ++ l) f ∙ regrouped so_far.front d others;
+      prefix = so_far.prefix ++ d ∷ [];
+      first = so_far.first ∙ ap (λ l. so_far.prefix ++ l) next ∙ regrouped so_far.prefix d after;
+      second = so_far.second ∙ ap (λ l. so_far.prefix ++ l) f ∙ regrouped so_far.prefix d others;
     }
 
--- the second is the front
-pub front_all : (xs ys r s : List ℕ) → SameFront xs ys r s → s ≡ [] → xs ≡ ys ++ r
-front_all xs ys r s so_far none =
-    let whole : ys ≡ so_far.front = so_far.second ∙ ap (λ l. so_far.front ++ l) none ∙ append-nil so_far.front in
+-- the second is the prefix
+pub prefix_all : (xs ys r s : List ℕ) → SamePrefix xs ys r s → s ≡ [] → xs ≡ ys ++ r
+prefix_all xs ys r s so_far none =
+    let whole : ys ≡ so_far.prefix = so_far.second ∙ ap (λ l. so_far.prefix ++ l) none ∙ append-nil so_far.prefix in
     so_far.first ∙ ap (λ l. l ++ r) (sym whole)
 
-front_rest : (xs ys r s t : List ℕ) → SameFront xs ys r s → xs ≡ ys ++ t → r ≡ s ++ t
-front_rest xs ys r s t so_far e =
-    append_cancel_left so_far.front r (s ++ t)
-    (sym so_far.first ∙ e ∙ ap (λ l. l ++ t) so_far.second ∙ append_assoc so_far.front s t)
+prefix_rest : (xs ys r s t : List ℕ) → SamePrefix xs ys r s → xs ≡ ys ++ t → r ≡ s ++ t
+prefix_rest xs ys r s t so_far e =
+    append_cancel_left so_far.prefix r (s ++ t)
+    (sym so_far.first ∙ e ∙ ap (λ l. l ++ t) so_far.second ∙ append_assoc so_far.prefix s t)
 
 -- the first ends before the second
-pub front_short :
-    (xs ys r s t others : List ℕ) (d : ℕ) → SameFront xs ys r s → r ≡ [] → s ≡ d ∷ others → xs ≡ ys ++ t → ⊥
-front_short xs ys r s t others d so_far none f e =
-    let rest : r ≡ s ++ t = front_rest xs ys r s t so_far e in
+pub prefix_short :
+    (xs ys r s t others : List ℕ) (d : ℕ) → SamePrefix xs ys r s → r ≡ [] → s ≡ d ∷ others → xs ≡ ys ++ t → ⊥
+prefix_short xs ys r s t others d so_far none f e =
+    let rest : r ≡ s ++ t = prefix_rest xs ys r s t so_far e in
     let both : [] ≡ d ∷ (others ++ t) = sym none ∙ rest ∙ ap (λ l. l ++ t) f in
     cc
 
 -- they differ
-pub front_differs :
-    (xs ys r s t after others : List ℕ) (c d : ℕ) → SameFront xs ys r s → r ≡ c ∷ after → s ≡ d ∷ others → c ≢ d → xs ≡ ys ++ t → ⊥
-front_differs xs ys r s t after others c d so_far g f differ e =
-    let rest : r ≡ s ++ t = front_rest xs ys r s t so_far e in
+pub prefix_differs :
+    (xs ys r s t after others : List ℕ) (c d : ℕ) → SamePrefix xs ys r s → r ≡ c ∷ after → s ≡ d ∷ others → c ≢ d → xs ≡ ys ++ t → ⊥
+prefix_differs xs ys r s t after others c d so_far g f differ e =
+    let rest : r ≡ s ++ t = prefix_rest xs ys r s t so_far e in
     let both : c ∷ after ≡ d ∷ (others ++ t) = sym g ∙ rest ∙ ap (λ l. l ++ t) f in
     differ cc

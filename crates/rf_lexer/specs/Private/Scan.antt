@@ -1,5 +1,5 @@
 -- What the scanner's functions find, over lists of characters.
-use Rattle.std.specs.Prelude.{◌≡◌, ◌≢◌, ℕ, ◌≤◌, Bool, List, ◌++◌, codes, length}
+use Rattle.std.specs.Prelude.{◌≡◌, ℕ, ◌≤◌, Bool, List, ◌++◌, codes, length}
 use Rattle.std.specs.Char.{is_ascii_digit}
 use Rattle.unicode_ident.specs.Ident.{is_xid_continue}
 use Rattle.rf_text.specs.Identifier.{EachPasses, IsIdentifier, is_in_quotes}
@@ -8,11 +8,12 @@ use Rattle.rf_lexer.specs.Gap.{is_in_line}
 use Rattle.rf_lexer.specs.Lexeme.{IsNumber}
 use Rattle.rf_lexer.specs.Kind.{IsBigNumber, IsLongest, IsLongName}
 use Rattle.rf_lexer.specs.Spelling.{mark_spelling}
+use Rattle.rf_failure.specs.declared.Failure.{Failure}
+use Rattle.rf_failure.specs.Answers.{IfFault}
 use Rattle.rf_lexer.specs.Fault.{IsCause}
 use Rattle.rf_lexer.specs.declared.character.CharSet.{CharSet}
 use Rattle.rf_lexer.specs.declared.character.CharSet.TheVariants.{InName, InLine, InQuotes, Digit}
 use Rattle.rf_lexer.specs.declared.error.LexError.{LexError}
-use Rattle.rf_lexer.specs.declared.error.LexError.TheVariants.{Memory}
 use Rattle.rf_lexer.specs.declared.mark.Mark.{Mark}
 use Rattle.rf_lexer.specs.declared.token.Kind.{Kind}
 
@@ -25,17 +26,17 @@ set_test Digit = is_ascii_digit
 
 -- the characters before rest pass the test, and the next one doesn't
 pub record IsSpan (test : ℕ → Bool) (cs rest : List ℕ) : Type 0 where
-  pub front : List ℕ
-  pub joined : cs ≡ front ++ rest
-  pub each : EachPasses test front
+  pub prefix : List ℕ
+  pub joined : cs ≡ prefix ++ rest
+  pub each : EachPasses test prefix
   pub ends : StopsAt test rest
 
 -- the characters end with rest
 pub record IsEnd (cs rest : List ℕ) : Type 0 where
-  pub front : List ℕ
-  pub joined : cs ≡ front ++ rest
+  pub prefix : List ℕ
+  pub joined : cs ≡ prefix ++ rest
 
--- rest stands behind the first `*/`
+-- rest follows the first `*/`
 pub record IsClosed (cs rest : List ℕ) : Type 0 where
   pub body : List ℕ
   pub joined : cs ≡ body ++ (codes "*/" ++ rest)
@@ -56,12 +57,12 @@ pub record IsNumberTo (cs rest : List ℕ) : Type 0 where
   pub digits : List ℕ
   pub joined : cs ≡ digits ++ rest
   pub number : IsNumber digits
-  pub ends : (front behind : List ℕ) → IsNumber front → cs ≡ front ++ behind → length front ≤ length digits
+  pub ends : (prefix suffix : List ℕ) → IsNumber prefix → cs ≡ prefix ++ suffix → length prefix ≤ length digits
 
 -- the longest mark that cs begin with
 pub record IsLongestMark (mark : Mark) (cs rest : List ℕ) : Type 0 where
   pub joined : cs ≡ mark_spelling mark ++ rest
-  pub longest : (other : Mark) (behind : List ℕ) → cs ≡ mark_spelling other ++ behind → length (mark_spelling other) ≤ length (mark_spelling mark)
+  pub longest : (other : Mark) (suffix : List ℕ) → cs ≡ mark_spelling other ++ suffix → length (mark_spelling other) ≤ length (mark_spelling mark)
 
 -- the longest lexeme that cs begin with is of this kind, and within the limits
 pub record Takes (kind : Kind) (cs rest : List ℕ) : Type 0 where
@@ -69,6 +70,6 @@ pub record Takes (kind : Kind) (cs rest : List ℕ) : Type 0 where
   pub short : IsLongName kind → ⊥
   pub small : IsBigNumber kind → ⊥
 
--- memory ran out, or the error names this place and its cause stands there
-abbrev pub Fails : LexError → ℕ → List ℕ → Type 0
-Fails error place cs = error ≢ Memory → IsCause error place cs
+-- memory ran out, or the fault names this offset and its cause is there
+abbrev pub Fails : Failure LexError → ℕ → List ℕ → Type 0
+Fails failure offset cs = IfFault failure (λ e. IsCause e offset cs)

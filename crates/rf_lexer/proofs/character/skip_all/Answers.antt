@@ -1,6 +1,6 @@
 use Rattle.std.proofs.Common.{◌∙◌, sym, arith}
 use Rattle.rf_lexer.proofs.Spans.{passed_more}
-use Rattle.rf_lexer.proofs.character.behind_all.Goals as goal
+use Rattle.rf_lexer.proofs.character.skip_all.Goals as goal
 
 pub span-preserved : goal.span-preserved
 span-preserved c = record {

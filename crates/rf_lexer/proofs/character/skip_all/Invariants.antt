@@ -2,9 +2,9 @@ use Rattle.std.proofs.Common.{◌≤◌, length}
 use Rattle.std.specs.Str.{chars}
 use denote.Shadow.{shadow}
 use denote.Text.{Utf8}
-use Rattle.rf_lexer.specs.Scan.{set_test}
+use Rattle.rf_lexer.specs.Private.Scan.{set_test}
 use Rattle.rf_lexer.proofs.Spans.{Passed}
-use Rattle.rf_lexer.proofs.character.behind_all.Given as goal
+use Rattle.rf_lexer.proofs.character.skip_all.Given as goal
 
 abbrev pub invariant-span : goal.invariant-span
 invariant-span l = record {

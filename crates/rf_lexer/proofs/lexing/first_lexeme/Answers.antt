@@ -1,7 +1,7 @@
 use Rattle.std.proofs.Common.{subst, List, ℕ}
 use Rattle.rf_lexer.specs.Gap.{BeginsNoGap}
 use Rattle.rf_lexer.proofs.Takings.{has_character, takes_mark}
-use Rattle.rf_lexer.proofs.reading.first_lexeme.Goals as goal
+use Rattle.rf_lexer.proofs.lexing.first_lexeme.Goals as goal
 
 pub returns-in-Some-first_mark-clause-ok : goal.returns-in-Some-first_mark-clause-ok
 returns-in-Some-first_mark-clause-ok c = takes_mark _ _ _ c.in-Some-first_mark.ensures.found

@@ -4,7 +4,7 @@ use denote.Shadow.{shadow}
 use denote.Text.{Utf8}
 use Rattle.rf_lexer.specs.Gap.{BeginsNoGap}
 use Rattle.rf_lexer.specs.Tokens.{AreTokens}
-use Rattle.rf_lexer.proofs.reading.tokens_of.Given as goal
+use Rattle.rf_lexer.proofs.lexing.tokens_of.Given as goal
 
 abbrev pub invariant-loop-rest : goal.invariant-loop-rest
 invariant-loop-rest l = record {

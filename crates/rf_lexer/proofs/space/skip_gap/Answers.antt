@@ -1,6 +1,6 @@
 use Rattle.std.proofs.Common.{arith}
 use Rattle.rf_lexer.proofs.Gaps.{gap_more}
-use Rattle.rf_lexer.proofs.space.behind_gap.Goals as goal
+use Rattle.rf_lexer.proofs.space.skip_gap.Goals as goal
 
 pub gap-preserved : goal.gap-preserved
 gap-preserved c = record {

@@ -3,7 +3,7 @@ use Rattle.std.specs.Str.{chars}
 use denote.Shadow.{shadow}
 use denote.Text.{Utf8}
 use Rattle.rf_lexer.specs.Gap.{IsGap}
-use Rattle.rf_lexer.proofs.space.behind_gap.Given as goal
+use Rattle.rf_lexer.proofs.space.skip_gap.Given as goal
 
 abbrev pub invariant-gap : goal.invariant-gap
 invariant-gap l = record {

@@ -3,7 +3,7 @@ use Rattle.std.specs.Str.{chars}
 use denote.Shadow.{shadow}
 use denote.Text.{Utf8}
 use Rattle.rf_lexer.proofs.Closings.{NotYet}
-use Rattle.rf_lexer.proofs.space.behind_close.Given as goal
+use Rattle.rf_lexer.proofs.space.skip_to_close.Given as goal
 
 abbrev pub invariant-close : goal.invariant-close
 invariant-close l = record {
