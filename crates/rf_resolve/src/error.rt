@@ -1,8 +1,4 @@
-ghost use Rattle.std.specs.Prelude.{◌≡◌};
-ghost use Rattle.rf_resolve.specs.declared.error.NameError.TheVariants.{Memory};
-
 use rf_limits::LimitKind;
-use std::alloc::{AllocError, AllocFailed};
 use thiserror::Error;
 
 /// Why the names of a text don't make a problem. The rules are asked in this order, and the number is
@@ -47,22 +43,4 @@ pub enum NameError {
     /// The first one past a limit.
     #[error("limit")]
     Limit(LimitKind, u64),
-    #[error("out of memory")]
-    Memory,
-}
-
-impl From<AllocError> for NameError {
-    ghost from_gives = { λ _ e. e ≡ Memory };
-
-    fn from(_: AllocError) -> NameError {
-        NameError::Memory
-    }
-}
-
-impl<T: Drop> From<AllocFailed<T>> for NameError {
-    ghost from_gives = { λ _ e. e ≡ Memory };
-
-    fn from(_: AllocFailed<T>) -> NameError {
-        NameError::Memory
-    }
 }
