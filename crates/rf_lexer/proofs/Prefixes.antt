@@ -1,4 +1,4 @@
--- Fronts of a list, and how far they reach.
+-- Prefixes of a list, and how far they reach.
 use Rattle.std.proofs.lemmas.List.{append-nil, append_cancel_left}
 use Rattle.std.proofs.Common.{◌≡◌, ◌≢◌, ◌∙◌, ℕ, ◌≤◌, ◌+◌, Bool, true, false, List, [], ◌∷◌, ◌++◌, length, refl, sym, ap, arith, append_assoc, length-append}
 use Rattle.rf_text.specs.Identifier.{EachPasses}

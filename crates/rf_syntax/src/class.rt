@@ -18,7 +18,7 @@ pub struct Feature {
 pub enum FeatureWord {
     Contains,
     Container,
-    /// It means the same as no word.
+    /// It means the same as if there were no word.
     Refers,
 }
 

@@ -55,7 +55,7 @@ bare_byte name k bare h low =
     let kept = NoCharPasses-byte (λ c. not (is_xid_continue c)) name k (chars name, spelled, fails) h low in
     sym (is_xid_continue-ascii (get_or name k 0) low) ∙ not-false (is_xid_continue (get_or name k 0)) kept
 
--- so a bare name has none of the bytes that neither are beyond ASCII nor stand in plain names
+-- so a bare name has none of the bytes that neither are beyond ASCII nor are in plain names
 bare_fails :
     (p : ℕ → Bool) (name : List ℕ) → ((b : ℕ) → 128 ≤ b → p b ≡ false) → ((b : ℕ) → is_name_byte b ≡ true → p b ≡ false) →
     is_bare name ≡ true → EachFails p name

@@ -11,7 +11,7 @@ pub record CanBeQuoted (name : List ℕ) : Type 0 where
   pub no_return : All (λ b. b ≢ 13) name
   pub short : length name ≤ 255
 
--- the name is an identifier and no keyword, so it needs no quotes
+-- the name is an identifier that isn't a keyword, so it needs no quotes
 unfoldable pub is_bare : List ℕ → Bool
 is_bare name = is_utf8 name && (is_identifier (chars name) && not (is_keyword name))
 

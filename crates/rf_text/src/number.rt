@@ -1,5 +1,5 @@
 ghost use Rattle.std.specs.Prelude.{◌≡◌, ◌++◌, ◌<◌, ◌^◌, ℕ, Some, IfSome, OnOk, OnErr, decimal, IsTrue, ◌↔◌};
-ghost use Rattle.rf_text.specs.Number.{IsPlain};
+ghost use Rattle.rf_text.specs.Private.Number.{IsPlain};
 
 use crate::Text;
 use std::alloc::{AllocError, Global};
