@@ -1,5 +1,5 @@
 -- When an answer is the one thing that is meant, or the one fault that there is.
-use Rattle.std.proofs.Common.{◌≡◌, ◌⊎◌, refl, ap, inl, inr, Result, Ok, Err}
+use Rattle.std.proofs.Common.{◌≡◌, ◌⊎◌, refl, ap, subst, inl, inr, Result, Ok, Err}
 use Rattle.rf_failure.specs.declared.Failure.{Failure}
 use Rattle.rf_failure.specs.declared.Failure.TheVariants.{Fault, Memory}
 use Rattle.rf_failure.specs.Answers.{Answers}
@@ -38,6 +38,12 @@ module _ {T X F : Type 0} (view : T → X) (Means : X → Type 0) (Fails : F →
   -- running out of memory is always an answer
   pub Answers-memory : Answers {T = T} view Means Fails (Err Memory)
   Answers-memory = record { ok = tt; found = λ x means. refl; fault = tt; stuck = λ f fails. inr refl }
+
+  -- the failure of an answer, by the fault that it is
+  pub Answers-as_fault :
+      (failure : Failure F) (f : F) → failure ≡ Fault f → Answers {T = T} view Means Fails (Err failure) →
+      Answers {T = T} view Means Fails (Err (Fault f))
+  Answers-as_fault failure f e answers = subst (λ (g : Failure F). Answers {T = T} view Means Fails (Err g)) e answers
 
   -- where something is found, there is no fault
   pub found_no_fault : (t : T) → Answers view Means Fails (Ok t) → (f : F) → Fails f → ⊥

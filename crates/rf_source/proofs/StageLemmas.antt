@@ -1,5 +1,5 @@
 -- How the answer of one stage is the answer of the whole.
-use Rattle.std.proofs.Common.{◌≡◌, ◌⊎◌, ◌∙◌, ℕ, List, refl, sym, ap, subst, inl, inr, Result, Ok, Err, arith, length}
+use Rattle.std.proofs.Common.{◌≡◌, ◌∙◌, ℕ, List, refl, sym, ap, subst, inl, inr, Result, Ok, Err, arith, length}
 use Rattle.std.specs.Str.{IsUtf8, IsValidUpTo}
 use Rattle.std.proofs.lemmas.Bool.{cases_lt}
 use Rattle.rf_failure.specs.Answers.{Answers}
@@ -12,13 +12,14 @@ use Rattle.rf_lexer.specs.declared.error.LexError.{LexError}
 use Rattle.rf_lexer.specs.declared.token.Token.{Token}
 use Rattle.rf_parser.specs.Fit.{IsTreeOf}
 use Rattle.rf_parser.specs.Refusal.{IsFirstRefused, ParseFault}
+use Rattle.rf_parser.specs.declared.error.ParseError.{ParseError}
 use Rattle.rf_parser.specs.declared.error.ParseError.TheVariants.{Unexpected as Refused}
 use Rattle.rf_problem.specs.declared.problem.Problem.{Problem}
 use Rattle.rf_resolve.specs.Fault.{NameFault, Resolves}
 use Rattle.rf_resolve.specs.declared.error.NameError.{NameError}
 use Rattle.rf_syntax.specs.declared.statement.Ast.{Ast}
 use Rattle.rf_source.specs.Source.{IsSource, SourceFault, offset_of_token}
-use Rattle.rf_source.specs.Private.Stages.{IsTokens, TokensFault, TreeFault}
+use Rattle.rf_source.specs.Private.Stages.{IsTokens, TokensFault, TreeFault, located_fault}
 use Rattle.rf_source.specs.declared.error.SourceError.{SourceError}
 use Rattle.rf_source.specs.declared.error.SourceError.TheVariants.{NotUtf8, Lexical, Unexpected, Names}
 
@@ -123,26 +124,32 @@ Answers-tree tokens end ast result parsed answers =
     from (Names e) f = subst (λ (a : Ast). TreeFault a (Names e)) (sym (one f.0 f.1)) f.2
 
 -- tokens that are refused have no other fault
-pub Answers-refused :
-    (tokens : List Token) (end k at : ℕ) → at ≡ offset_of_token tokens end k →
-    Answers {T = Ast} (λ ast. ast) (IsTreeOf tokens) (ParseFault tokens) (Err (Fault (Refused k))) →
-    Tells (IsTokens tokens) (TokensFault tokens end) (Err (Fault (Unexpected k at)))
-Answers-refused tokens end k at there refused =
-    Answers-fault (λ p. p) (IsTokens tokens) (TokensFault tokens end) (Unexpected k at) (refused.fault, there) others
+refused_at :
+    (tokens : List Token) (end k : ℕ) → Answers {T = Ast} (λ ast. ast) (IsTreeOf tokens) (ParseFault tokens) (Err (Fault (Refused k))) →
+    Tells (IsTokens tokens) (TokensFault tokens end) (Err (Fault (Unexpected k (offset_of_token tokens end k))))
+refused_at tokens end k refused =
+    Answers-fault (λ p. p) (IsTokens tokens) (TokensFault tokens end) (Unexpected k (offset_of_token tokens end k)) (refused.fault, refl) others
     (λ p t. no_tree t.0 t.1)
   where
     no_tree : (ast : Ast) → IsTreeOf tokens ast → ⊥
     no_tree ast tree = fault_not_found {T = Ast} (λ (a : Ast). a) (IsTreeOf tokens) (ParseFault tokens) (Refused k) refused ast tree
 
-    others : (e : SourceError) → TokensFault tokens end e → Unexpected k at ≡ e
+    others : (e : SourceError) → TokensFault tokens end e → Unexpected k (offset_of_token tokens end k) ≡ e
     others (NotUtf8 n) f = absurd f
     others (Lexical e) f = absurd f
     others (Unexpected j offset) f =
         let same : Refused k ≡ Refused j = one_fault {T = Ast} (λ (a : Ast). a) (IsTreeOf tokens) (ParseFault tokens) (Refused k) refused (Refused j) f.0 in
         let one : k ≡ j = cc in
-        let placed : at ≡ offset = there ∙ ap (λ (i : ℕ). offset_of_token tokens end i) one ∙ sym f.1 in
+        let there : offset_of_token tokens end k ≡ offset = ap (λ (i : ℕ). offset_of_token tokens end i) one ∙ sym f.1 in
         cc
     others (Names e) f = absurd (no_tree f.0 f.1)
+
+pub Answers-refused :
+    (tokens : List Token) (end : ℕ) (error : ParseError) (fault : SourceError) → fault ≡ located_fault tokens end error →
+    Answers {T = Ast} (λ ast. ast) (IsTreeOf tokens) (ParseFault tokens) (Err (Fault error)) →
+    Tells (IsTokens tokens) (TokensFault tokens end) (Err (Fault fault))
+Answers-refused tokens end (Refused k) fault e refused =
+    subst (λ (f : SourceError). Tells (IsTokens tokens) (TokensFault tokens end) (Err (Fault f))) (sym e) (refused_at tokens end k refused)
 
 -- the problem of a tree, and its fault
 pub Answers-resolved :

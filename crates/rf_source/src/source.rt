@@ -4,7 +4,7 @@ ghost use Rattle.rf_parser.specs.Fit.{token_kinds};
 ghost use Rattle.rf_resolve.specs.Fault.{Resolves};
 ghost use Rattle.rf_resolve.specs.Readable.{IsReadable, IsReadableTree};
 ghost use Rattle.rf_source.specs.Source.{IsSource, SourceFault, offset_of_token};
-ghost use Rattle.rf_source.specs.Private.Stages.{IsTokens, TokensFault, TreeFault};
+ghost use Rattle.rf_source.specs.Private.Stages.{IsTokens, TokensFault, TreeFault, located_fault};
 
 use crate::SourceError;
 use rf_failure::Failure;
@@ -22,6 +22,18 @@ fn offset_of(tokens: &[Token], end: u64, number: u64) -> u64
     match tokens.get(number as usize) {
         Some(token) => token.start,
         None => end,
+    }
+}
+
+// The fault of a text whose tokens are refused so.
+fn located(tokens: &[Token], end: u64, error: ParseError) -> SourceError
+    ensures { result ≡ located_fault tokens.now end error }
+{
+    match error {
+        ParseError::Unexpected(token) => SourceError::Unexpected {
+            token,
+            at: offset_of(tokens, end, token),
+        },
     }
 }
 
@@ -44,12 +56,7 @@ fn read_tokens(alloc: Global, tokens: &[Token], end: u64) -> Result<Problem, Fai
 {
     match parse(alloc, tokens) {
         Ok(ast) => read_tree(alloc, &ast),
-        Err(Failure::Fault(ParseError::Unexpected(token))) => {
-            Err(Failure::Fault(SourceError::Unexpected {
-                token,
-                at: offset_of(tokens, end, token),
-            }))
-        }
+        Err(Failure::Fault(error)) => Err(Failure::Fault(located(tokens, end, error))),
         Err(Failure::Memory) => Err(Failure::Memory),
     }
 }

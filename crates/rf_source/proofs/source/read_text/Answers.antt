@@ -1,7 +1,7 @@
 use Rattle.std.proofs.Common.{List, All, sym, subst, length, chars, []}
 use Rattle.std.specs.declared.vec.Vec.{Vec}
 use Rattle.std.specs.declared.alloc.Global.{Global}
-use Rattle.rf_failure.proofs.AnswersLemmas.{fault_not_found, found_no_fault, one_fault}
+use Rattle.rf_failure.proofs.AnswersLemmas.{Answers-as_fault, fault_not_found, found_no_fault, one_fault}
 use Rattle.rf_lexer.specs.Fault.{LexFault}
 use Rattle.rf_lexer.specs.Tokens.{Lexemes}
 use Rattle.rf_lexer.specs.declared.token.Token.{Token}
@@ -26,7 +26,10 @@ returns-in-Ok c =
 pub returns-in-Err-Fault : goal.returns-in-Err-Fault
 returns-in-Err-Fault c =
     let text = c.args.text.now in
-    let answers = c.in-Err-Fault.ensures.answers in
-    Answers-lexical text c.in-Err-Fault.error c.utf8.text answers.fault
-    (fault_not_found (λ (v : Vec Token Global). v.items) (Lexemes text) (LexFault text) c.in-Err-Fault.error answers)
-    (one_fault (λ (v : Vec Token Global). v.items) (Lexemes text) (LexFault text) c.in-Err-Fault.error answers)
+    let arm = c.in-Err-Fault in
+    let answers =
+    Answers-as_fault (λ (v : Vec Token Global). v.items) (Lexemes text) (LexFault text) arm.field-0 arm.error arm.field-0-is arm.ensures.answers in
+    rw arm.error-is
+    (Answers-lexical text arm.error c.utf8.text answers.fault
+    (fault_not_found (λ (v : Vec Token Global). v.items) (Lexemes text) (LexFault text) arm.error answers)
+    (one_fault (λ (v : Vec Token Global). v.items) (Lexemes text) (LexFault text) arm.error answers))
