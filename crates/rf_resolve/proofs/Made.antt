@@ -17,7 +17,7 @@ use Rattle.rf_failure.specs.Answers.{Answers, IfFault}
 use Rattle.rf_failure.specs.declared.Failure.{Failure}
 use Rattle.rf_failure.specs.declared.Failure.TheVariants.{Fault, Memory}
 use Rattle.rf_resolve.proofs.ClassesFit.{class_count}
-use Rattle.rf_resolve.proofs.ClearPlaces.{few-from_first_past}
+use Rattle.rf_resolve.proofs.ClearOffsets.{few-from_first_past}
 use Rattle.rf_resolve.proofs.PairFacts.{All-unmap}
 use Rattle.rf_resolve.proofs.Passing.{passes}
 use Rattle.rf_resolve.proofs.ReadableParts.{readable_declared}

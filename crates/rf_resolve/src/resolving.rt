@@ -38,10 +38,7 @@ fn problem_of(alloc: Global, names: &Names) -> Result<Problem, AllocError>
 }
 
 // The problem of these declarations, or the first rule that is broken.
-fn resolve_declared(
-    alloc: Global,
-    declared: &Declarations,
-) -> Result<Problem, Failure<NameError>>
+fn resolve_declared(alloc: Global, declared: &Declarations) -> Result<Problem, Failure<NameError>>
     requires { IsOfText declared.now }
     ensures sound { IfOk result (λ p. fault_of declared.now ≡ None) }
     ensures ok { IfOk result (λ p. IsResolved declared.now p) }
@@ -55,8 +52,8 @@ fn resolve_declared(
     Ok(problem)
 }
 
-/// The problem that a tree stands for: each list is that of its declarations in order, each number the
-/// place of what a name stands for. A tree has exactly one problem, or one fault.
+/// The problem that a tree stands for: each list is that of its declarations in order, each number
+/// that of what a name stands for. A tree has exactly one problem, or one fault.
 pub fn resolve(alloc: Global, ast: &Ast) -> Result<Problem, Failure<NameError>>
     requires { IsReadableTree ast.now }
     ensures answers { Answers (λ p. p) (Resolves ast.now) (NameFault ast.now) result }
