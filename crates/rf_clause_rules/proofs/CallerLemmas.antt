@@ -10,7 +10,7 @@ use Rattle.std.proofs.Math.ListN.{get_or-append}
 use Rattle.rf_closure.specs.Along.{leads}
 use Rattle.rf_finite.specs.Walks.{walk_below}
 use Rattle.rf_clause_rules.specs.Calls.{AreCallers, is_back_at, is_call_of}
-use Rattle.rf_names.specs.LeastPlace.{place_if}
+use Rattle.rf_names.specs.Offsets.{offset_if}
 use Rattle.rf_clause_rules.specs.declared.calls.PredicateCall.{PredicateCall}
 
 or_true : (a b : Bool) → (a || (b || false)) ≡ (a || (b && true))
@@ -142,20 +142,20 @@ marked_back callers marks p long each q = elim (cases_Bool (nat_lt q (length cal
       rw (past, none) refl)
 ]
 
-pub marked_places : (callers : List (List ℕ)) (marks : List Bool) (p : ℕ) → length marks
+pub marked_offsets : (callers : List (List ℕ)) (marks : List Bool) (p : ℕ) → length marks
     ≡ length callers →
     ((b : ℕ) → b < length callers → get_or marks b false
     ≡ walk_below (leads callers) (λ x. true) (length callers) p b) →
     (calls : List PredicateCall) →
-    flat_map (λ c. place_if ((c.predicate == p) || get_or marks c.predicate false) c.at) calls
-    ≡ flat_map (λ c. place_if (is_back_at callers p c.predicate) c.at) calls
-marked_places callers marks p long each [] = refl
-marked_places callers marks p long each (c ∷ cs) =
-    let rest = marked_places callers marks p long each cs in
-    ap (λ b. place_if b c.at
-    ++ flat_map (λ c. place_if ((c.predicate == p) || get_or marks c.predicate false) c.at) cs)
+    flat_map (λ c. offset_if ((c.predicate == p) || get_or marks c.predicate false) c.at) calls
+    ≡ flat_map (λ c. offset_if (is_back_at callers p c.predicate) c.at) calls
+marked_offsets callers marks p long each [] = refl
+marked_offsets callers marks p long each (c ∷ cs) =
+    let rest = marked_offsets callers marks p long each cs in
+    ap (λ b. offset_if b c.at
+    ++ flat_map (λ c. offset_if ((c.predicate == p) || get_or marks c.predicate false) c.at) cs)
     (marked_back callers marks p long each c.predicate)
-    ∙ ap (λ ats. place_if (is_back_at callers p c.predicate) c.at ++ ats) rest
+    ∙ ap (λ ats. offset_if (is_back_at callers p c.predicate) c.at ++ ats) rest
 
 pub ruleset call_steps = (common_steps, call_added, call_passed)
 
@@ -166,7 +166,7 @@ mapped_at f [] i x below is = absurd (omega arith)
 mapped_at f (y ∷ xs) zero x below is = ap f (sym is)
 mapped_at f (y ∷ xs) (suc i) x below is = mapped_at f xs i x (omega arith) is
 
--- behind all lists the callers are complete
+-- after all lists the callers are complete
 pub callers_all :
     (lists : List (List PredicateCall)) (i : ℕ) (callers : List (List ℕ)) → length lists ≤ i →
     length callers ≡ length lists →

@@ -1,4 +1,4 @@
--- The places of loose variables.
+-- The offsets of loose variables.
 use Rattle.std.proofs.Common.{◌≡◌, ◌<◌, ◌+◌, ◌∙◌, ℕ, suc, Bool, true, false, not, List, [], ◌∷◌, ◌++◌, length, map, filter, take, get_or, append_assoc, Option, Some, arith, refl, sym, ap, inl, inr}
 use Rattle.std.specs.Prelude.{◌==◌, ◌&&◌, ◌||◌, if◌then◌else◌}
 use Rattle.std.specs.BTreeMap.{BTreeMap, get_by}
@@ -18,13 +18,13 @@ use Rattle.rf_syntax.specs.declared.predicate.BodyLiteral.{BodyLiteral}
 use Rattle.rf_syntax.specs.declared.predicate.Param.{Param}
 use Rattle.rf_names.specs.Bodies.{clause_names, is_loose, loose_variables, param_names}
 use Rattle.rf_names.specs.Declarations.{PredicateDecl}
-use Rattle.rf_names.specs.LeastPlace.{least_of, lesser, place_if, places_in_clauses}
+use Rattle.rf_names.specs.Offsets.{least_of, lesser, offset_if, offsets_in_clauses}
 use Rattle.rf_names.specs.LookUp.{first_of_each, is_blank, reads}
 use Rattle.rf_clause_rules.specs.Occurrences.{behind_literal, behind_literals, is_loose_occurrence, named_among, named_in, occurrence_in, occurrence_of}
 use Rattle.rf_clause_rules.specs.declared.occurrence.Occurrence.{Occurrence}
 use Rattle.rf_clause_rules.specs.declared.occurrence.Occurrence.TheVariants.{Nowhere, Inside, Loose, Bound}
 use Rattle.rf_names.proofs.MapLemmas.{map_one_more}
-use Rattle.rf_names.proofs.LeastPlaces.{least_of_append}
+use Rattle.rf_names.proofs.LeastOffsets.{least_of_append}
 use Rattle.rf_clause_rules.proofs.OccurrenceLemmas.{loose_occurrence}
 
 -- to name it twice in one literal says no more
@@ -136,12 +136,12 @@ behind_more f xs i x text o now new below is before step =
     ∙ sym (behind_snoc 0 i (map f (take i xs)) (f x) text o (omega arith))
     ∙ ap (λ ls. behind_literals 0 ls text o) (sym (map_one_more f xs i x below is))
 
--- the places of those that are kept
-kept_places : (p q : Name → Bool) → ((n : Name) → p n ≡ q n) → (ns : List Name) →
-    flat_map (λ n. place_if (p n) n.at) ns ≡ map (λ v. v.at) (filter q ns)
-kept_places p q same [] = refl
-kept_places p q same (n ∷ ns) =
-    let rest = kept_places p q same ns in
+-- the offsets of those that pass
+filtered_offsets : (p q : Name → Bool) → ((n : Name) → p n ≡ q n) → (ns : List Name) →
+    flat_map (λ n. offset_if (p n) n.at) ns ≡ map (λ v. v.at) (filter q ns)
+filtered_offsets p q same [] = refl
+filtered_offsets p q same (n ∷ ns) =
+    let rest = filtered_offsets p q same ns in
     elim (cases_Bool (q n)) [
       | inl e ↦ (let here : p n ≡ true = same n ∙ e in rw (here, e) (ap (λ ats. n.at ∷ ats) rest))
       | inr e ↦ (let here : p n ≡ false = same n ∙ e in rw (here, e) rest)
@@ -151,7 +151,7 @@ pub loose_least : (params : List Param) (clause : List BodyLiteral)
     (occurrences : BTreeMap (Bor (List ℕ)) Occurrence) (firsts : List Name) →
     ((text : List ℕ) → occurrence_in occurrences text ≡ occurrence_of params clause text) →
     firsts ≡ first_of_each [] (clause_names clause) →
-    least_of (flat_map (λ n. place_if (not (is_blank n)
+    least_of (flat_map (λ n. offset_if (not (is_blank n)
     && is_loose_occurrence (occurrence_in occurrences n.text)) n.at) firsts)
     ≡ least_of (map (λ v. v.at) (loose_variables params clause))
 loose_least params clause occurrences firsts each are =
@@ -159,34 +159,7 @@ loose_least params clause occurrences firsts each are =
     && is_loose_occurrence (occurrence_in occurrences n.text)) ≡ is_loose params clause n =
     λ n. ap (λ o. not (is_blank n) && is_loose_occurrence o) (each n.text)
     ∙ ap (λ b. not (is_blank n) && b) (loose_occurrence n.text params clause) in
-    ap least_of (kept_places (λ n. not (is_blank n)
+    ap least_of (filtered_offsets (λ n. not (is_blank n)
     && is_loose_occurrence (occurrence_in occurrences n.text))
     (is_loose params clause) same firsts)
     ∙ ap (λ ns. least_of (map (λ v. v.at) (filter (is_loose params clause) ns))) are
-
--- the places in one predicate more
-places_snoc : (f : ℕ → List Param → List BodyLiteral → List ℕ) (n m : ℕ) (ps : List PredicateDecl)
-    (p : PredicateDecl) → m ≡ n + length ps →
-    places_in_clauses f n (ps ++ p ∷ []) ≡ places_in_clauses f n ps
-    ++ flat_map (f m p.params) p.clauses
-places_snoc f n m [] p is = let e : m ≡ n = omega arith in
-    rw e (append-nil (flat_map (f n p.params) p.clauses))
-places_snoc f n m (q ∷ ps) p is =
-    let e : m ≡ suc n + length ps = omega arith in
-    ap (λ rest. flat_map (f n q.params) q.clauses ++ rest) (places_snoc f (suc n) m ps p e)
-    ∙ sym (append_assoc (flat_map (f n q.params) q.clauses) (places_in_clauses f (suc n) ps)
-    (flat_map (f m p.params) p.clauses))
-
-pub places_more : (f : ℕ → List Param → List BodyLiteral → List ℕ) (ps : List PredicateDecl)
-    (i : ℕ) (p : PredicateDecl) (least more : Option ℕ) →
-    i < length ps → p ≡ get_or ps i p → least ≡ least_of (places_in_clauses f 0 (take i ps)) →
-    more ≡ least_of (flat_map (f i p.params) p.clauses) →
-    lesser least more ≡ least_of (places_in_clauses f 0 (take (i + 1) ps))
-places_more f ps i p least more below is before here =
-    let short = length-take-le i ps (omega arith) in
-    let at : i ≡ 0 + length (take i ps) = omega arith in
-    ap (λ a. lesser a more) before ∙ ap (lesser (least_of (places_in_clauses f 0 (take i ps)))) here
-    ∙ sym (least_of_append (places_in_clauses f 0 (take i ps)) (flat_map (f i p.params) p.clauses))
-    ∙ ap least_of (sym (places_snoc f 0 i (take i ps) p at)
-    ∙ ap (λ q. places_in_clauses f 0 (take i ps ++ q ∷ [])) is)
-    ∙ ap (λ qs. least_of (places_in_clauses f 0 qs)) (sym (take_more ps i p below))

@@ -6,11 +6,11 @@ use Rattle.std.proofs.lemmas.Bool.{cases_Bool, eq-eqb, ltb-false, ltb-true, ne_e
 use Rattle.rf_closure.specs.Along.{leads}
 use Rattle.rf_finite.specs.Walks.{walk_below}
 use Rattle.rf_names.specs.Declarations.{Declared}
-use Rattle.rf_names.specs.LeastPlace.{least_of, place_if, places_in_literals}
+use Rattle.rf_names.specs.Offsets.{least_of, offset_if, offsets_in_literals}
 use Rattle.rf_names.specs.Ranks.{HasRanks}
 use Rattle.rf_names.proofs.RankLemmas.{ranks_fall}
 use Rattle.rf_clause_rules.specs.Calls.{AreCallers, calls_of, is_back_at, is_call_of}
-use Rattle.rf_clause_rules.specs.ClausePlaces.{recursive_literal, recursive_places}
+use Rattle.rf_clause_rules.specs.ClauseOffsets.{recursive_literal, recursive_offsets}
 use Rattle.rf_clause_rules.specs.declared.calls.PredicateCall.{PredicateCall}
 use Rattle.rf_clause_rules.proofs.RecursionLemmas.{recursion_all, recursion_more}
 
@@ -45,39 +45,39 @@ not_back lists callers are ranks p q below called =
     no_less : (n : ℕ) → n < n → ⊥
     no_less n less = omega arith
 
-no_places : (callers : List (List ℕ)) (p : ℕ) (calls : List PredicateCall) →
+no_offsets : (callers : List (List ℕ)) (p : ℕ) (calls : List PredicateCall) →
     ((q : ℕ) → list_any (is_call_of q) calls ≡ true → is_back_at callers p q ≡ false) →
-    flat_map (λ c. place_if (is_back_at callers p c.predicate) c.at) calls ≡ []
-no_places callers p [] none = refl
-no_places callers p (c ∷ cs) none =
+    flat_map (λ c. offset_if (is_back_at callers p c.predicate) c.at) calls ≡ []
+no_offsets callers p [] none = refl
+no_offsets callers p (c ∷ cs) none =
     let here : is_back_at callers p c.predicate ≡ false =
     none c.predicate (or_left (c.predicate == c.predicate) (list_any (is_call_of c.predicate) cs)
     (eq-eqb c.predicate c.predicate refl)) in
-    ap (λ b. place_if b c.at
-    ++ flat_map (λ k. place_if (is_back_at callers p k.predicate) k.at) cs) here
-    ∙ no_places callers p cs
+    ap (λ b. offset_if b c.at
+    ++ flat_map (λ k. offset_if (is_back_at callers p k.predicate) k.at) cs) here
+    ∙ no_offsets callers p cs
     (λ q called. none q (or_right (c.predicate == q) (list_any (is_call_of q) cs) called))
 
 none_before :
     (d : Declared) (callers : List (List ℕ)) (lists : List (List PredicateCall)) →
     lists ≡ map (calls_of d) d.predicates → AreCallers lists callers → HasRanks callers →
     (i : ℕ) → i ≤ length lists →
-    None ≡ least_of (places_in_literals (recursive_literal d) (take i d.predicates))
+    None ≡ least_of (offsets_in_literals (recursive_literal d) (take i d.predicates))
 none_before d callers lists made are ranks zero within = refl
 none_before d callers lists made are ranks (suc i) within =
     let next : i + 1 ≡ suc i = omega arith in
     let below : i < length lists = omega arith in
     let before = none_before d callers lists made are ranks i (omega arith) in
     recursion_more d callers lists made are i (get_or lists i []) None None below refl before
-    (ap least_of (sym (no_places callers i (get_or lists i [])
+    (ap least_of (sym (no_offsets callers i (get_or lists i [])
     (λ q. not_back lists callers are ranks i q below))))
-    ∙ ap (λ k. least_of (places_in_literals (recursive_literal d) (take k d.predicates))) next
+    ∙ ap (λ k. least_of (offsets_in_literals (recursive_literal d) (take k d.predicates))) next
 
--- so no place is one of a predicate that calls itself
+-- so no offset is one of a predicate that calls itself
 pub never_recursive :
     (d : Declared) (callers : List (List ℕ)) (lists : List (List PredicateCall)) →
     lists ≡ map (calls_of d) d.predicates → AreCallers lists callers → HasRanks callers →
-    None ≡ least_of (recursive_places d)
+    None ≡ least_of (recursive_offsets d)
 never_recursive d callers lists made are ranks =
     recursion_all d lists made (length lists) None (omega arith)
     (none_before d callers lists made are ranks (length lists) (omega arith))

@@ -15,10 +15,10 @@ use Rattle.rf_names.specs.Bodies.{called_by, calls_directly, is_called_from, lea
 use Rattle.rf_names.specs.LookUp.{is_number, no_predicate_decl, predicate_decl_at}
 use Rattle.rf_clause_rules.specs.Calls.{AreCallers, call_at, calls_among, calls_in, calls_of, is_back_at, is_call_of}
 use Rattle.rf_names.specs.Declarations.{Declared, PredicateDecl}
-use Rattle.rf_names.specs.LeastPlace.{least_of, lesser, place_if, places_in_literals}
-use Rattle.rf_clause_rules.specs.ClausePlaces.{leads_back_to, recursive_literal, recursive_places}
+use Rattle.rf_names.specs.Offsets.{least_of, lesser, offset_if, offsets_in_literals}
+use Rattle.rf_clause_rules.specs.ClauseOffsets.{leads_back_to, recursive_literal, recursive_offsets}
 use Rattle.rf_clause_rules.specs.declared.calls.PredicateCall.{PredicateCall}
-use Rattle.rf_clause_rules.proofs.LooseLemmas.{places_more}
+use Rattle.rf_names.proofs.LeastOffsets.{least_of_numbered}
 
 -- lists of lists
 flat_map-flat : {X Y Z : Type 0} (g : Y → List Z) (f : X → List Y) (xs : List X) →
@@ -84,7 +84,7 @@ module _ (d : Declared) where
   directly q p = ap (list_any (is_call_of q)) (made-at d.predicates p)
       ∙ any_of q (predicate_decl_at d p)
 
-  -- no walk leads to a number behind them all
+  -- no walk leads to a number after them all
   no_call : (p q : ℕ) → length d.predicates ≤ q → calls_directly d q p ≡ false
   no_call p q past = ap (λ (x : PredicateDecl). list_any
       (λ clause. list_any (λ l. is_number p (called_by d l)) clause) x.clauses)
@@ -126,34 +126,34 @@ module _ (d : Declared) where
             (sym (no_walk (length d.predicates) p q (ltb-false q (length d.predicates) past)))))
       ]
 
-      places_at : (p : ℕ) (o : Option ℕ) (at : ℕ) → p < length d.predicates →
-          flat_map (λ c. place_if (is_back_at callers p c.predicate) c.at) (call_at o at)
-          ≡ place_if (leads_back_to d p o) at
-      places_at p None at l = refl
-      places_at p (Some q) at l =
-          append-nil (place_if (is_back_at callers p q) at) ∙ ap (λ b. place_if b at) (back p q l)
+      offsets_at : (p : ℕ) (o : Option ℕ) (at : ℕ) → p < length d.predicates →
+          flat_map (λ c. offset_if (is_back_at callers p c.predicate) c.at) (call_at o at)
+          ≡ offset_if (leads_back_to d p o) at
+      offsets_at p None at l = refl
+      offsets_at p (Some q) at l =
+          append-nil (offset_if (is_back_at callers p q) at) ∙ ap (λ b. offset_if b at) (back p q l)
 
-      places_in : (p : ℕ) (l : BodyLiteral) → p < length d.predicates →
-          flat_map (λ c. place_if (is_back_at callers p c.predicate) c.at) (calls_in d l)
+      offsets_in : (p : ℕ) (l : BodyLiteral) → p < length d.predicates →
+          flat_map (λ c. offset_if (is_back_at callers p c.predicate) c.at) (calls_in d l)
           ≡ recursive_literal d p l
-      places_in p (Call negated symbol closure args) l =
-          places_at p (called_by d (Call negated symbol closure args)) symbol.name.at l
-      places_in p (Same a b) l = refl
-      places_in p (Differ a b) l = refl
+      offsets_in p (Call negated symbol closure args) l =
+          offsets_at p (called_by d (Call negated symbol closure args)) symbol.name.at l
+      offsets_in p (Same a b) l = refl
+      offsets_in p (Differ a b) l = refl
 
-      -- the places in the calls of a predicate are those in its literals
-      pub places_of : (p : ℕ) (x : PredicateDecl) → p < length d.predicates →
-          flat_map (λ c. place_if (is_back_at callers p c.predicate) c.at) (calls_of d x)
+      -- the offsets in the calls of a predicate are those in its literals
+      pub offsets_of : (p : ℕ) (x : PredicateDecl) → p < length d.predicates →
+          flat_map (λ c. offset_if (is_back_at callers p c.predicate) c.at) (calls_of d x)
           ≡ flat_map (λ clause. flat_map (recursive_literal d p) clause) x.clauses
-      places_of p x l =
-          let place : PredicateCall → List ℕ =
-          λ c. place_if (is_back_at callers p c.predicate) c.at in
-          flat_map-flat place (calls_among d) x.clauses
-          ∙ flat_map-same (λ clause. flat_map place (calls_among d clause))
+      offsets_of p x l =
+          let offset : PredicateCall → List ℕ =
+          λ c. offset_if (is_back_at callers p c.predicate) c.at in
+          flat_map-flat offset (calls_among d) x.clauses
+          ∙ flat_map-same (λ clause. flat_map offset (calls_among d clause))
           (λ clause. flat_map (recursive_literal d p) clause)
-          (λ clause. flat_map-flat place (calls_in d) clause
-          ∙ flat_map-same (λ m. flat_map place (calls_in d m)) (recursive_literal d p)
-          (λ m. places_in p m l) clause)
+          (λ clause. flat_map-flat offset (calls_in d) clause
+          ∙ flat_map-same (λ m. flat_map offset (calls_in d m)) (recursive_literal d p)
+          (λ m. offsets_in p m l) clause)
           x.clauses
 
 -- a loop's step over the lists of calls
@@ -162,10 +162,10 @@ pub recursion_more :
     lists ≡ map (calls_of d) d.predicates → AreCallers lists callers →
     (i : ℕ) (calls : List PredicateCall) (least more : Option ℕ) → i < length lists →
     get_or lists i [] ≡ calls →
-    least ≡ least_of (places_in_literals (recursive_literal d) (take i d.predicates)) →
-    more ≡ least_of (flat_map (λ c. place_if (is_back_at callers i c.predicate) c.at) calls) →
+    least ≡ least_of (offsets_in_literals (recursive_literal d) (take i d.predicates)) →
+    more ≡ least_of (flat_map (λ c. offset_if (is_back_at callers i c.predicate) c.at) calls) →
     lesser least more ≡ least_of
-    (places_in_literals (recursive_literal d) (take (i + 1) d.predicates))
+    (offsets_in_literals (recursive_literal d) (take (i + 1) d.predicates))
 recursion_more d callers lists made are i calls least more below at before here =
     let p : PredicateDecl = get_or d.predicates i no_predicate_decl in
     let mine : AreCallers (map (calls_of d) d.predicates) callers =
@@ -178,19 +178,21 @@ recursion_more d callers lists made are i calls least more below at before here 
     let found : more ≡ least_of
     (flat_map (λ clause. flat_map (recursive_literal d i) clause) p.clauses) =
     here ∙ ap (λ cs. least_of
-    (flat_map (λ c. place_if (is_back_at callers i c.predicate) c.at) cs)) same
-    ∙ ap least_of (places_of d callers mine i p less) in
-    places_more (λ n params clause. flat_map (recursive_literal d n) clause) d.predicates i p least
-    more less
-    (get_or_default d.predicates i no_predicate_decl p less) before found
+    (flat_map (λ c. offset_if (is_back_at callers i c.predicate) c.at) cs)) same
+    ∙ ap least_of (offsets_of d callers mine i p less) in
+    ap (λ a. lesser a more) before
+    ∙ ap (lesser (least_of (offsets_in_literals (recursive_literal d) (take i d.predicates)))) found
+    ∙ sym (least_of_numbered
+    (λ k (x : PredicateDecl). flat_map (λ clause. flat_map (recursive_literal d k) clause) x.clauses)
+    d.predicates i p less (get_or_default d.predicates i no_predicate_decl p less))
 
 pub recursion_all :
     (d : Declared) (lists : List (List PredicateCall)) → lists ≡ map (calls_of d) d.predicates →
     (i : ℕ) (least : Option ℕ) → length lists ≤ i →
-    least ≡ least_of (places_in_literals (recursive_literal d) (take i d.predicates)) →
-    least ≡ least_of (recursive_places d)
+    least ≡ least_of (offsets_in_literals (recursive_literal d) (take i d.predicates)) →
+    least ≡ least_of (recursive_offsets d)
 recursion_all d lists made i least end before =
     let long : length lists ≡ length d.predicates = ap length made
     ∙ length-map d.predicates (calls_of d) in
-    before ∙ ap (λ ps. least_of (places_in_literals (recursive_literal d) ps))
+    before ∙ ap (λ ps. least_of (offsets_in_literals (recursive_literal d) ps))
     (take_all i d.predicates (omega arith))

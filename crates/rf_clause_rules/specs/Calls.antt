@@ -1,4 +1,4 @@
--- The calls of predicates in clauses, in lists.
+-- For private functions: the calls of predicates in clauses, in lists.
 use Rattle.std.specs.Prelude.{ℕ, List, [], ◌∷◌, Option, None, Some, ◌==◌, Bool, ◌&&◌, ◌||◌, nat_lt, true, length, ◌≡◌, slice_index_or, ◌<◌}
 use Rattle.std.specs.List.{flat_map, list_any}
 use Rattle.rf_syntax.specs.declared.predicate.BodyLiteral.{BodyLiteral}
@@ -9,7 +9,7 @@ use Rattle.rf_clause_rules.specs.declared.calls.PredicateCall.{PredicateCall}
 use Rattle.rf_names.specs.Bodies.{called_by}
 use Rattle.rf_names.specs.Declarations.{Declared, PredicateDecl}
 
--- the call at a place, where a predicate is called there
+-- the call at an offset, where a predicate is called there
 abbrev pub call_at : Option ℕ → ℕ → List PredicateCall
 call_at None at = []
 call_at (Some q) at = record { predicate = q; at = at } ∷ []

@@ -1,3 +1,3 @@
 pub mod Calls
-pub mod ClausePlaces
+pub mod ClauseOffsets
 pub mod Occurrences

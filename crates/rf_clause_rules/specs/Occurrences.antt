@@ -1,4 +1,4 @@
--- How the variables of a clause occur in its literals, by one pass over them.
+-- For private functions: how the variables of a clause occur in its literals, by one pass over them.
 use Rattle.std.specs.Prelude.{◌==◌, ℕ, Bool, true, false, if◌then◌else◌, List, suc, [], ◌∷◌}
 use Rattle.std.specs.List.{list_any}
 use Rattle.std.specs.BTreeMap.{BTreeMap, get_by}
@@ -27,7 +27,7 @@ abbrev pub named_among : ℕ → Bool → List Name → List ℕ → Occurrence 
 named_among k negated names text occurrence =
     if list_any (reads text) names then named_in k negated occurrence else occurrence
 
--- how the variable of this name occurs behind a literal, and behind literals with the numbers from k on
+-- how the variable of this name occurs after a literal, and after literals with the numbers from k on
 abbrev pub behind_literal : ℕ → BodyLiteral → List ℕ → Occurrence → Occurrence
 behind_literal k literal text occurrence =
     if names_variable text literal then named_in k (is_negated literal) occurrence else occurrence
@@ -49,7 +49,7 @@ is_loose_occurrence (Inside k) = false
 is_loose_occurrence Loose = true
 is_loose_occurrence Bound = false
 
--- what is kept under a text
+-- what is stored under a text
 abbrev pub occurrence_in : BTreeMap (Bor (List ℕ)) Occurrence → List ℕ → Occurrence
 occurrence_in occurrences text =
     unwrap_or (get_by (λ key. slice_cmp nat_cmp text key.now) occurrences) Nowhere

@@ -6,12 +6,12 @@ ghost use Rattle.rf_names.specs.Bodies.{predicate_of};
 ghost use Rattle.rf_clause_rules.specs.Calls.{calls_among, calls_in, calls_of};
 ghost use Rattle.rf_names.specs.LookUp.{literal_symbols, sense_of};
 
-use rf_names::{ClauseForm, Names, PredicateForm, Sense};
+use rf_names::{ClauseDeclaration, Names, PredicateDeclaration, Sense};
 use rf_problem::Symbol;
 use rf_syntax::{BodyLiteral, SymbolName};
 use std::alloc::{AllocError, Global};
 
-/// A call of a predicate, at the place of its symbol.
+/// A call of a predicate, at the offset of its symbol.
 #[derive(Clone, Copy, Debug)]
 pub struct PredicateCall {
     pub predicate: u64,
@@ -77,7 +77,7 @@ fn push_clause_calls(
     alloc: Global,
     names: &Names,
     calls: &mut Vec<PredicateCall>,
-    clause: &ClauseForm,
+    clause: &ClauseDeclaration,
 ) -> Result<(), AllocError>
     ensures { OnOk result (calls.new.items ≡ calls.old.items
         ++ calls_among names.now.declared.now clause.now) }
@@ -88,7 +88,7 @@ fn push_clause_calls(
 fn calls_in_clauses(
     alloc: Global,
     names: &Names,
-    clauses: &[ClauseForm],
+    clauses: &[ClauseDeclaration],
 ) -> Result<Vec<PredicateCall>, AllocError>
     ensures { IfOk result (λ v. v.items
         ≡ flat_map (calls_among names.now.declared.now) clauses.now) }
@@ -104,7 +104,7 @@ fn calls_in_clauses(
 pub fn calls_of(
     alloc: Global,
     names: &Names,
-    predicate: &PredicateForm,
+    predicate: &PredicateDeclaration,
 ) -> Result<Vec<PredicateCall>, AllocError>
     ensures { IfOk result (λ v. v.items ≡ calls_of names.now.declared.now predicate.now) }
 {
@@ -115,7 +115,7 @@ pub fn calls_of(
 pub fn calls_of_each(
     alloc: Global,
     names: &Names,
-    predicates: &[PredicateForm],
+    predicates: &[PredicateDeclaration],
 ) -> Result<Vec<Vec<PredicateCall>>, AllocError>
     ensures { IfOk result (λ v. map (λ list. list.items) v.items
         ≡ map (calls_of names.now.declared.now) predicates.now) }

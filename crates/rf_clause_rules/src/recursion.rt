@@ -4,12 +4,12 @@ ghost use Rattle.std.specs.Prelude.{◌≡◌, ◌<◌, ◌++◌, ◌∷◌, [],
 ghost use Rattle.std.specs.List.{flat_map, list_any};
 ghost use Rattle.rf_closure.specs.Along.{leads};
 ghost use Rattle.rf_clause_rules.specs.Calls.{AreCallers, calls_of, is_back_at, is_call_of};
-ghost use Rattle.rf_names.specs.LeastPlace.{least_of, place_if};
-ghost use Rattle.rf_clause_rules.specs.ClausePlaces.{recursive_places};
+ghost use Rattle.rf_names.specs.Offsets.{least_of, offset_if};
+ghost use Rattle.rf_clause_rules.specs.ClauseOffsets.{recursive_offsets};
 
 use crate::calls::{PredicateCall, calls_of_each};
 use rf_closure::reach_along;
-use rf_names::{Names, has_ranks, lesser, place_if};
+use rf_names::{Names, OffsetRule, has_ranks, least_among, lesser, offset_if};
 use std::alloc::{AllocError, Global};
 
 fn no_callers(alloc: Global, count: u64) -> Result<Vec<Vec<u64>>, AllocError>
@@ -85,23 +85,27 @@ fn is_back_at(marks: &[bool], predicate: u64, called: u64) -> bool
     called == predicate || ((called as usize) < marks.len() && marks[called as usize])
 }
 
-#[tactic(auto, using(rf_names::proofs::LeastPlaces::least_steps))]
-fn least_marked(marks: &[bool], predicate: u64, calls: &[PredicateCall]) -> Option<u64>
-    ensures { result ≡ least_of
-        (flat_map (λ c. place_if ((c.predicate == predicate)
-        || slice_index_or marks.now c.predicate false) c.at) calls.now) }
-{
-    let mut least = None;
-    for call in calls {
-        least = lesser(
-            least,
-            place_if(is_back_at(marks, predicate, call.predicate), call.at),
-        );
-    }
-    least
+// The rule of calls, by what is marked.
+#[derive(Drop)]
+struct CallsBack<'m> {
+    marks: &'m [bool],
+    predicate: u64,
 }
 
-// The least place at which a predicate calls itself or one to which its callers lead.
+impl<'m> OffsetRule<PredicateCall> for CallsBack<'m> {
+    ghost offsets = { λ rule c.
+        offset_if
+        ((c.predicate == rule.predicate) || slice_index_or rule.marks.now c.predicate false)
+        c.at };
+
+    fn least_in(&self, _alloc: Global, call: &PredicateCall) -> Result<Option<u64>, AllocError> {
+        let back = is_back_at(self.marks, self.predicate, call.predicate);
+        Ok(offset_if(back, call.at))
+    }
+}
+
+// The least offset at which a predicate calls itself or one to which its callers lead.
+#[tactic(auto, using(crate::proofs::CallerLemmas::marked_offsets))]
 fn least_back(
     alloc: Global,
     callers: &[Vec<u64>],
@@ -111,14 +115,18 @@ fn least_back(
     requires { predicate < length callers.now }
     ensures { IfOk result (λ at. at
         ≡ least_of (flat_map
-        (λ c. place_if (is_back_at (map (λ list. list.items) callers.now) predicate c.predicate)
+        (λ c. offset_if (is_back_at (map (λ list. list.items) callers.now) predicate c.predicate)
         c.at) calls.now)) }
 {
     if calls.is_empty() {
         return Ok(None);
     }
     let marks = reach_along(alloc, callers, predicate)?;
-    Ok(least_marked(marks.as_slice(), predicate, calls))
+    let rule = CallsBack {
+        marks: marks.as_slice(),
+        predicate,
+    };
+    least_among(alloc, &rule, calls)
 }
 
 fn least_in_calls(
@@ -131,7 +139,7 @@ fn least_in_calls(
         ≡ map (calls_of names.now.declared.now) names.now.declared.now.predicates }
     requires callers { AreCallers (map (λ list. list.items) calls.now)
         (map (λ list. list.items) callers.now) }
-    ensures { IfOk result (λ at. at ≡ least_of (recursive_places names.now.declared.now)) }
+    ensures { IfOk result (λ at. at ≡ least_of (recursive_offsets names.now.declared.now)) }
 {
     let mut least = None;
     for (number, list) in calls.iter().enumerate() {
@@ -143,12 +151,12 @@ fn least_in_calls(
     Ok(least)
 }
 
-/// The least place at which a predicate is called that is the calling one or calls it, directly or
+/// The least offset at which a predicate is called that is the calling one or calls it, directly or
 /// through others. Where ranks along the calls show that there is none, nothing is searched; else each
 /// predicate that calls one takes a search along the calls of all.
 #[tactic(auto, using(crate::proofs::RankedCallers::never_recursive))]
 pub fn recursive(alloc: Global, names: &Names) -> Result<Option<u64>, AllocError>
-    ensures { IfOk result (λ at. at ≡ least_of (recursive_places names.now.declared.now)) }
+    ensures { IfOk result (λ at. at ≡ least_of (recursive_offsets names.now.declared.now)) }
 {
     let declared = names.declared;
     let calls = calls_of_each(alloc, names, declared.predicates.as_slice())?;

@@ -10,7 +10,7 @@ use Rattle.rf_text.specs.Identifier.{EachPasses}
 use Rattle.rf_lexer.specs.Fault.{IsBigNumberAt}
 use Rattle.rf_lexer.specs.Kind.{IsLongest}
 use Rattle.rf_lexer.specs.Lexeme.{IsNumber}
-use Rattle.rf_lexer.specs.Scan.{IsNumberTo, Takes}
+use Rattle.rf_lexer.specs.Private.Scan.{IsNumberTo, Takes}
 use Rattle.rf_lexer.specs.declared.token.Kind.TheVariants.{Number}
 use Rattle.rf_lexer.proofs.Longest.{none_longer_number}
 

@@ -1,10 +1,10 @@
--- What stands between lexemes is the characters' own.
+-- The characters themselves decide what is between lexemes.
 use Rattle.std.proofs.Common.{◌≡◌, ◌≢◌, ◌∙◌, ℕ, zero, suc, true, false, cond, List, [], ◌∷◌, ◌++◌, codes, refl, sym, ap, subst, inl, inr, ◌⊎◌, arith, append_assoc}
 use Rattle.std.specs.Prelude.{◌==◌}
 use Rattle.rf_lexer.specs.Gap.{BeginsNoGap, IsBlockComment, IsGap, IsLineComment, IsPast, IsPastOne, IsSpace, is_in_line, is_space}
-use Rattle.rf_lexer.specs.Scan.{IsClosed, IsNotClosed, IsSpan}
+use Rattle.rf_lexer.specs.Private.Scan.{IsClosed, IsNotClosed, IsSpan}
 use Rattle.rf_lexer.proofs.Closings.{closed_once}
-use Rattle.rf_lexer.proofs.Fronts.{span_same}
+use Rattle.rf_lexer.proofs.Prefixes.{span_same}
 
 -- how a space or a comment begins
 pub data Sort : Type 0 where
@@ -42,7 +42,7 @@ past_slashes :
 past_slashes cs rest piece e l f =
     let whole : cs ≡ 47 ∷ 47 ∷ (l.body ++ rest) = e ∙ ap (λ p. p ++ rest) f in
     at_sort slashes (gap_sort cs) cs rest (ap gap_sort whole)
-    (l.body ++ rest, whole, record { front = l.body; joined = refl; each = l.line; ends = l.ended })
+    (l.body ++ rest, whole, record { prefix = l.body; joined = refl; each = l.line; ends = l.ended })
 
 past_percent :
     (cs rest piece : List ℕ) → cs ≡ piece ++ rest → (l : IsLineComment piece rest) → piece ≡ codes "%" ++ l.body →
@@ -50,7 +50,7 @@ past_percent :
 past_percent cs rest piece e l f =
     let whole : cs ≡ 37 ∷ (l.body ++ rest) = e ∙ ap (λ p. p ++ rest) f in
     at_sort percent (gap_sort cs) cs rest (ap gap_sort whole)
-    (l.body ++ rest, whole, record { front = l.body; joined = refl; each = l.line; ends = l.ended })
+    (l.body ++ rest, whole, record { prefix = l.body; joined = refl; each = l.line; ends = l.ended })
 
 past_block : (cs rest piece : List ℕ) → cs ≡ piece ++ rest → IsBlockComment piece → PastBy (gap_sort cs) cs rest
 past_block cs rest piece e b =
@@ -74,7 +74,7 @@ past_by cs rest one = past_kind cs rest one.piece one.joined one.kind
 
 span_once : (t u r s : List ℕ) → t ≡ u → IsSpan is_in_line t r → IsSpan is_in_line u s → r ≡ s
 span_once t u r s e x y =
-    (span_same is_in_line x.front y.front r s x.each x.ends y.each y.ends (sym x.joined ∙ e ∙ y.joined)).1
+    (span_same is_in_line x.prefix y.prefix r s x.each x.ends y.each y.ends (sym x.joined ∙ e ∙ y.joined)).1
 
 close_once : (t u r s : List ℕ) → t ≡ u → IsClosed t r → IsClosed u s → r ≡ s
 close_once t u r s e x y = closed_once x.body y.body r s x.next y.next (sym x.joined ∙ e ∙ y.joined)
@@ -94,7 +94,7 @@ one_past_by block cs r t x y =
     let same : x.0 ≡ y.0 = cc in
     close_once x.0 y.0 r t same x.2 y.2
 
--- behind a space or a comment stands one rest
+-- after a space or a comment there is one rest
 pub one_past : (cs r t : List ℕ) → IsPastOne cs r → IsPastOne cs t → r ≡ t
 one_past cs r t x y = one_past_by (gap_sort cs) cs r t (past_by cs r x) (past_by cs t y)
 
@@ -104,16 +104,16 @@ past_from_space cs rest c e s = record { piece = c ∷ []; joined = e; kind = in
 
 pub past_from_percent : (cs t rest : List ℕ) → cs ≡ 37 ∷ t → IsSpan is_in_line t rest → IsPastOne cs rest
 past_from_percent cs t rest e s = record {
-  piece = 37 ∷ s.front;
+  piece = 37 ∷ s.prefix;
   joined = e ∙ ap (λ u. 37 ∷ u) s.joined;
-  kind = inr (inl record { body = s.front; joined = inr refl; line = s.each; ended = s.ends });
+  kind = inr (inl record { body = s.prefix; joined = inr refl; line = s.each; ended = s.ends });
 }
 
 pub past_from_slashes : (u t rest : List ℕ) → u ≡ 47 ∷ t → IsSpan is_in_line t rest → IsPastOne (47 ∷ u) rest
 past_from_slashes u t rest e s = record {
-  piece = 47 ∷ 47 ∷ s.front;
+  piece = 47 ∷ 47 ∷ s.prefix;
   joined = ap (λ v. 47 ∷ v) (e ∙ ap (λ v. 47 ∷ v) s.joined);
-  kind = inr (inl record { body = s.front; joined = inl refl; line = s.each; ended = s.ends });
+  kind = inr (inl record { body = s.prefix; joined = inl refl; line = s.each; ended = s.ends });
 }
 
 pub past_from_block : (u t rest : List ℕ) → u ≡ 42 ∷ t → IsClosed t rest → IsPastOne (47 ∷ u) rest
@@ -179,7 +179,7 @@ open_by block u t rest e closed p =
     let two : 42 ∷ t ≡ 42 ∷ p.0 = sym e ∙ both in
     let same : t ≡ p.0 = cc in
     let close = p.2 in
-    closed record { before = close.body; behind = rest; joined = same ∙ close.joined }
+    closed record { before = close.body; suffix = rest; joined = same ∙ close.joined }
 
 -- where none begins
 pub no_gap_none : (cs : List ℕ) → cs ≡ [] → BeginsNoGap cs

@@ -116,17 +116,17 @@ head_once a b cs x y =
     let same : x.head ≡ y.head = cc in
     sym x.is ∙ ap sort_at same ∙ y.is
 
-pub head_front : (a : ℕ) (cs front behind : List ℕ) → cs ≡ front ++ behind → Headed a front → Headed a cs
-head_front a cs front behind e x = record {
+pub head_prefix : (a : ℕ) (cs prefix suffix : List ℕ) → cs ≡ prefix ++ suffix → Headed a prefix → Headed a cs
+head_prefix a cs prefix suffix e x = record {
   head = x.head;
-  tail = x.tail ++ behind;
-  joined = e ∙ ap (λ f. f ++ behind) x.joined;
+  tail = x.tail ++ suffix;
+  joined = e ∙ ap (λ f. f ++ suffix) x.joined;
   is = x.is;
 }
 
--- what a lexeme that stands in front has as its first character
-pub front_head : (kind : Kind) (cs front behind : List ℕ) → Spells kind front → cs ≡ front ++ behind → Headed (kind_sort kind) cs
-front_head kind cs front behind s e = head_front (kind_sort kind) cs front behind e (kind_head kind front s)
+-- what a lexeme at the beginning has as its first character
+pub prefix_head : (kind : Kind) (cs prefix suffix : List ℕ) → Spells kind prefix → cs ≡ prefix ++ suffix → Headed (kind_sort kind) cs
+prefix_head kind cs prefix suffix s e = head_prefix (kind_sort kind) cs prefix suffix e (kind_head kind prefix s)
 
 pub kind_sort_small : (kind : Kind) → kind_sort kind ≤ 3
 kind_sort_small (Word k) = omega arith

@@ -3,7 +3,7 @@ pub mod Closes
 pub mod Closings
 pub mod Digits
 pub mod Encoded
-pub mod Fronts
+pub mod Prefixes
 pub mod Gaps
 pub mod Heads
 pub mod Keywords

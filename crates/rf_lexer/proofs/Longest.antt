@@ -7,19 +7,19 @@ use Rattle.rf_lexer.specs.Characters.{StopsAt}
 use Rattle.rf_lexer.specs.Gap.{BeginsNoGap}
 use Rattle.rf_lexer.specs.Kind.{IsLongest, Spells}
 use Rattle.rf_text.specs.Identifier.{IsIdentifier, IsQuoted, is_in_quotes}
-use Rattle.rf_lexer.specs.Scan.{IsIdentifierTo, IsLongestMark, IsNumberTo}
+use Rattle.rf_lexer.specs.Private.Scan.{IsIdentifierTo, IsLongestMark, IsNumberTo}
 use Rattle.rf_lexer.specs.Spelling.{mark_spelling}
 use Rattle.rf_lexer.specs.declared.mark.Mark.{Mark as AnyMark}
 use Rattle.rf_lexer.specs.declared.token.Kind.{Kind}
 use Rattle.rf_lexer.specs.declared.token.Kind.TheVariants.{Word, Name, Quoted, Number, Mark}
-use Rattle.rf_lexer.proofs.Fronts.{same_front, span_longest}
-use Rattle.rf_lexer.proofs.Heads.{front_head, head_front, head_once, identifier_head, kind_head, kind_sort, kind_sort_small, mark_head, number_head, past_head, quoted_head}
+use Rattle.rf_lexer.proofs.Prefixes.{same_prefix, span_longest}
+use Rattle.rf_lexer.proofs.Heads.{prefix_head, head_prefix, head_once, identifier_head, kind_head, kind_sort, kind_sort_small, mark_head, number_head, past_head, quoted_head}
 use Rattle.rf_lexer.proofs.Spellings.{keyword_spelling-inj, mark_spelling-inj}
 
--- lexemes of two sorts don't stand at one place
+-- lexemes of two sorts don't begin at one offset
 pub sorts_agree :
     (a b : Kind) (cs f g r s : List ℕ) → Spells a f → cs ≡ f ++ r → Spells b g → cs ≡ g ++ s → kind_sort a ≡ kind_sort b
-sorts_agree a b cs f g r s x e y h = head_once (kind_sort a) (kind_sort b) cs (front_head a cs f r x e) (front_head b cs g s y h)
+sorts_agree a b cs f g r s x e y h = head_once (kind_sort a) (kind_sort b) cs (prefix_head a cs f r x e) (prefix_head b cs g s y h)
 
 name_once : (m n cs : List ℕ) → IsQuoted m cs → IsQuoted n cs → m ≡ n
 name_once m n cs x y =
@@ -65,14 +65,14 @@ one_longest a b cs r s x y =
     let short = x.longest b y.lexeme s y.spelled y.joined in
     let long = y.longest a x.lexeme r x.spelled x.joined in
     let both : x.lexeme ++ r ≡ y.lexeme ++ s = sym x.joined ∙ y.joined in
-    let same = same_front x.lexeme y.lexeme r s (omega arith) both in
+    let same = same_prefix x.lexeme y.lexeme r s (omega arith) both in
     let spelled : Spells b x.lexeme = subst (λ (l : List ℕ). Spells b l) (sym same.0) y.spelled in
     (one_kind a b x.lexeme x.spelled spelled, same.1)
 
 -- where a lexeme begins, neither a space nor a comment does
-pub lexeme_no_gap : (kind : Kind) (cs front behind : List ℕ) → Spells kind front → cs ≡ front ++ behind → BeginsNoGap cs
-lexeme_no_gap kind cs front behind s e rest one =
-    let same : kind_sort kind ≡ 4 = head_once (kind_sort kind) 4 cs (front_head kind cs front behind s e) (past_head cs rest one) in
+pub lexeme_no_gap : (kind : Kind) (cs prefix suffix : List ℕ) → Spells kind prefix → cs ≡ prefix ++ suffix → BeginsNoGap cs
+lexeme_no_gap kind cs prefix suffix s e rest one =
+    let same : kind_sort kind ≡ 4 = head_once (kind_sort kind) 4 cs (prefix_head kind cs prefix suffix s e) (past_head cs rest one) in
     let small = kind_sort_small kind in
     absurd (omega arith)
 
@@ -95,35 +95,35 @@ quoted_longest m n a b r s x y e =
     let short = span_longest is_in_quotes m n (39 ∷ r) (39 ∷ s) y.plain refl tails in
     omega (arith, ap length x.joined, ap length y.joined, length-append m (39 ∷ []), length-append n (39 ∷ []))
 
--- no front of cs that is a lexeme is longer than this
+-- no prefix of cs that is a lexeme is longer than this
 abbrev pub NoneLonger : List ℕ → List ℕ → Type 0
-NoneLonger cs lexeme = (other : Kind) (front behind : List ℕ) → Spells other front → cs ≡ front ++ behind → length front ≤ length lexeme
+NoneLonger cs lexeme = (other : Kind) (prefix suffix : List ℕ) → Spells other prefix → cs ≡ prefix ++ suffix → length prefix ≤ length lexeme
 
 not_identifier :
     (other : Kind) (cs rest : List ℕ) (i : IsIdentifierTo cs rest) (f b : List ℕ) → Spells other f → cs ≡ f ++ b →
     (kind_sort other ≡ 0 → ⊥) → ⊥
 not_identifier other cs rest i f b s e apart =
-    apart (head_once (kind_sort other) 0 cs (front_head other cs f b s e)
-    (head_front 0 cs i.word rest i.joined (identifier_head i.word i.identifier)))
+    apart (head_once (kind_sort other) 0 cs (prefix_head other cs f b s e)
+    (head_prefix 0 cs i.word rest i.joined (identifier_head i.word i.identifier)))
 
 not_quoted :
     (other : Kind) (cs name lexeme rest : List ℕ) → cs ≡ lexeme ++ rest → IsQuoted name lexeme → (f b : List ℕ) → Spells other f →
     cs ≡ f ++ b → (kind_sort other ≡ 1 → ⊥) → ⊥
 not_quoted other cs name lexeme rest j q f b s e apart =
-    apart (head_once (kind_sort other) 1 cs (front_head other cs f b s e) (head_front 1 cs lexeme rest j (quoted_head name lexeme q)))
+    apart (head_once (kind_sort other) 1 cs (prefix_head other cs f b s e) (head_prefix 1 cs lexeme rest j (quoted_head name lexeme q)))
 
 not_number :
     (other : Kind) (cs rest : List ℕ) (i : IsNumberTo cs rest) (f b : List ℕ) → Spells other f → cs ≡ f ++ b →
     (kind_sort other ≡ 2 → ⊥) → ⊥
 not_number other cs rest i f b s e apart =
-    apart (head_once (kind_sort other) 2 cs (front_head other cs f b s e)
-    (head_front 2 cs i.digits rest i.joined (number_head i.digits i.number)))
+    apart (head_once (kind_sort other) 2 cs (prefix_head other cs f b s e)
+    (head_prefix 2 cs i.digits rest i.joined (number_head i.digits i.number)))
 
 not_mark :
     (m : AnyMark) (other : Kind) (cs rest : List ℕ) (i : IsLongestMark m cs rest) (f b : List ℕ) → Spells other f → cs ≡ f ++ b →
     (kind_sort other ≡ 3 → ⊥) → ⊥
 not_mark m other cs rest i f b s e apart =
-    apart (head_once (kind_sort other) 3 cs (front_head other cs f b s e) (head_front 3 cs (mark_spelling m) rest i.joined (mark_head m)))
+    apart (head_once (kind_sort other) 3 cs (prefix_head other cs f b s e) (head_prefix 3 cs (mark_spelling m) rest i.joined (mark_head m)))
 
 pub none_longer_identifier : (cs rest : List ℕ) (i : IsIdentifierTo cs rest) → NoneLonger cs i.word
 none_longer_identifier cs rest i (Word k) f b s e =

@@ -5,7 +5,7 @@ use Rattle.std.proofs.lemmas.Str.{chars-nil}
 use Rattle.std.specs.Prelude.{◌==◌}
 use Rattle.std.specs.Str.{chars, encode_utf8_all}
 use Rattle.rf_lexer.specs.Gap.{BeginsNoGap, IsGap}
-use Rattle.rf_lexer.specs.Scan.{Takes}
+use Rattle.rf_lexer.specs.Private.Scan.{Takes}
 use Rattle.rf_lexer.specs.Tokens.{AreTokens, IsToken, StandsAt}
 use Rattle.rf_lexer.specs.declared.token.Kind.{Kind}
 use Rattle.rf_lexer.specs.declared.token.Token.{Token}
@@ -20,14 +20,14 @@ tokens_more size cs [] mid here t after so_far gap one = (here, after, gap_joine
 tokens_more size cs (u ∷ us) mid here t after so_far gap one =
     (so_far.0, so_far.1, so_far.2, so_far.3, tokens_more size so_far.1 us mid here t after so_far.4 gap one)
 
--- and what stands behind them
+-- and what follows them
 pub tokens_gap :
     (size : ℕ) (cs : List ℕ) (ts : List Token) (mid rest : List ℕ) → AreTokens size cs ts mid → IsGap mid rest → AreTokens size cs ts rest
 tokens_gap size cs [] mid rest so_far gap = gap_joined cs mid rest so_far gap
 tokens_gap size cs (u ∷ us) mid rest so_far gap =
     (so_far.0, so_far.1, so_far.2, so_far.3, tokens_gap size so_far.1 us mid rest so_far.4 gap)
 
--- one more token and what stands behind it
+-- one more token and what follows it
 pub lexed_more :
     (size : ℕ) (cs : List ℕ) (ts items : List Token) (mid after rest : List ℕ) (t : Token) → AreTokens size cs ts mid →
     IsToken size t mid after → IsGap after rest → items ≡ ts ++ t ∷ [] → AreTokens size cs items rest

@@ -1,4 +1,4 @@
--- Keywords and marks by their places in the tables that the code goes through.
+-- Keywords and marks by their indices in the tables that the code goes through.
 use Rattle.std.proofs.Common.{◌≡◌, ◌∙◌, ℕ, suc, ◌≤◌, ◌<◌, cond, List, [], ◌∷◌, length, get_or, refl, sym, ap, arith}
 use Rattle.std.specs.Str.{bytes_eq, chars, encode_utf8_all}
 use Rattle.std.specs.Char.{encode_utf8}
@@ -10,55 +10,55 @@ use Rattle.rf_lexer.specs.declared.keyword.Keyword.TheVariants.{Abstract, Atom, 
 use Rattle.rf_lexer.specs.declared.mark.Mark.{Mark}
 use Rattle.rf_lexer.specs.declared.mark.Mark.TheVariants.{Dot, DotDot, Comma, Semicolon, Colon, ColonColon, LeftParen, RightParen, LeftBracket, RightBracket, LeftBrace, RightBrace, Bang, Question, Star, Plus, Equal, PlusEqual, EqualEqual, BangEqual, Iff}
 
--- where a list stands first among others
-abbrev pub place_in : List (List ℕ) → List ℕ → ℕ
-place_in [] cs = 0
-place_in (x ∷ xs) cs = cond (bytes_eq x cs) 0 (suc (place_in xs cs))
+-- the index of a list among others, where it is first
+abbrev pub index_in : List (List ℕ) → List ℕ → ℕ
+index_in [] cs = 0
+index_in (x ∷ xs) cs = cond (bytes_eq x cs) 0 (suc (index_in xs cs))
 
-abbrev pub keyword_place : Keyword → ℕ
-keyword_place Abstract = 0
-keyword_place Atom = 1
-keyword_place Class = 2
-keyword_place Container = 3
-keyword_place Contains = 4
-keyword_place Declare = 5
-keyword_place Default = 6
-keyword_place Enum = 7
-keyword_place Error = 8
-keyword_place Extends = 9
-keyword_place False = 10
-keyword_place Multi = 11
-keyword_place Opposite = 12
-keyword_place Pred = 13
-keyword_place Refers = 14
-keyword_place Scope = 15
-keyword_place True = 16
-keyword_place Unknown = 17
+abbrev pub keyword_index : Keyword → ℕ
+keyword_index Abstract = 0
+keyword_index Atom = 1
+keyword_index Class = 2
+keyword_index Container = 3
+keyword_index Contains = 4
+keyword_index Declare = 5
+keyword_index Default = 6
+keyword_index Enum = 7
+keyword_index Error = 8
+keyword_index Extends = 9
+keyword_index False = 10
+keyword_index Multi = 11
+keyword_index Opposite = 12
+keyword_index Pred = 13
+keyword_index Refers = 14
+keyword_index Scope = 15
+keyword_index True = 16
+keyword_index Unknown = 17
 
 abbrev keyword_list : List (List ℕ)
 keyword_list = keyword_spelling Abstract ∷ keyword_spelling Atom ∷ keyword_spelling Class ∷ keyword_spelling Container ∷ keyword_spelling Contains ∷ keyword_spelling Declare ∷ keyword_spelling Default ∷ keyword_spelling Enum ∷ keyword_spelling Error ∷ keyword_spelling Extends ∷ keyword_spelling False ∷ keyword_spelling Multi ∷ keyword_spelling Opposite ∷ keyword_spelling Pred ∷ keyword_spelling Refers ∷ keyword_spelling Scope ∷ keyword_spelling True ∷ keyword_spelling Unknown ∷ []
 
-pub keyword_place_small : (k : Keyword) → keyword_place k < 18
-keyword_place_small Abstract = omega arith
-keyword_place_small Atom = omega arith
-keyword_place_small Class = omega arith
-keyword_place_small Container = omega arith
-keyword_place_small Contains = omega arith
-keyword_place_small Declare = omega arith
-keyword_place_small Default = omega arith
-keyword_place_small Enum = omega arith
-keyword_place_small Error = omega arith
-keyword_place_small Extends = omega arith
-keyword_place_small False = omega arith
-keyword_place_small Multi = omega arith
-keyword_place_small Opposite = omega arith
-keyword_place_small Pred = omega arith
-keyword_place_small Refers = omega arith
-keyword_place_small Scope = omega arith
-keyword_place_small True = omega arith
-keyword_place_small Unknown = omega arith
+pub keyword_index_small : (k : Keyword) → keyword_index k < 18
+keyword_index_small Abstract = omega arith
+keyword_index_small Atom = omega arith
+keyword_index_small Class = omega arith
+keyword_index_small Container = omega arith
+keyword_index_small Contains = omega arith
+keyword_index_small Declare = omega arith
+keyword_index_small Default = omega arith
+keyword_index_small Enum = omega arith
+keyword_index_small Error = omega arith
+keyword_index_small Extends = omega arith
+keyword_index_small False = omega arith
+keyword_index_small Multi = omega arith
+keyword_index_small Opposite = omega arith
+keyword_index_small Pred = omega arith
+keyword_index_small Refers = omega arith
+keyword_index_small Scope = omega arith
+keyword_index_small True = omega arith
+keyword_index_small Unknown = omega arith
 
-keyword_found : (k : Keyword) → place_in keyword_list (keyword_spelling k) ≡ keyword_place k
+keyword_found : (k : Keyword) → index_in keyword_list (keyword_spelling k) ≡ keyword_index k
 keyword_found Abstract = refl
 keyword_found Atom = refl
 keyword_found Class = refl
@@ -78,7 +78,7 @@ keyword_found Scope = refl
 keyword_found True = refl
 keyword_found Unknown = refl
 
-pub keyword_listed : (k d : Keyword) → get_or KEYWORDS (keyword_place k) d ≡ k
+pub keyword_listed : (k d : Keyword) → get_or KEYWORDS (keyword_index k) d ≡ k
 keyword_listed Abstract d = refl
 keyword_listed Atom d = refl
 keyword_listed Class d = refl
@@ -122,63 +122,63 @@ encodes-keyword_spelling Unknown = refl
 -- a spelling is that of one keyword
 pub keyword_spelling-inj : (k j : Keyword) → keyword_spelling k ≡ keyword_spelling j → k ≡ j
 keyword_spelling-inj k j e =
-    let places : keyword_place k ≡ keyword_place j = sym (keyword_found k) ∙ ap (place_in keyword_list) e ∙ keyword_found j in
-    sym (keyword_listed k k) ∙ ap (λ i. get_or KEYWORDS i k) places ∙ keyword_listed j k
+    let indices : keyword_index k ≡ keyword_index j = sym (keyword_found k) ∙ ap (index_in keyword_list) e ∙ keyword_found j in
+    sym (keyword_listed k k) ∙ ap (λ i. get_or KEYWORDS i k) indices ∙ keyword_listed j k
 
--- the keyword at a place
-pub keyword_at : (k d : Keyword) (i : ℕ) → keyword_place k ≡ i → get_or KEYWORDS i d ≡ k
+-- the keyword at an index
+pub keyword_at : (k d : Keyword) (i : ℕ) → keyword_index k ≡ i → get_or KEYWORDS i d ≡ k
 keyword_at k d i e = ap (λ n. get_or KEYWORDS n d) (sym e) ∙ keyword_listed k d
 
-abbrev pub mark_place : Mark → ℕ
-mark_place Dot = 6
-mark_place DotDot = 1
-mark_place Comma = 7
-mark_place Semicolon = 8
-mark_place Colon = 9
-mark_place ColonColon = 2
-mark_place LeftParen = 10
-mark_place RightParen = 11
-mark_place LeftBracket = 12
-mark_place RightBracket = 13
-mark_place LeftBrace = 14
-mark_place RightBrace = 15
-mark_place Bang = 16
-mark_place Question = 17
-mark_place Star = 18
-mark_place Plus = 19
-mark_place Equal = 20
-mark_place PlusEqual = 3
-mark_place EqualEqual = 4
-mark_place BangEqual = 5
-mark_place Iff = 0
+abbrev pub mark_index : Mark → ℕ
+mark_index Dot = 6
+mark_index DotDot = 1
+mark_index Comma = 7
+mark_index Semicolon = 8
+mark_index Colon = 9
+mark_index ColonColon = 2
+mark_index LeftParen = 10
+mark_index RightParen = 11
+mark_index LeftBracket = 12
+mark_index RightBracket = 13
+mark_index LeftBrace = 14
+mark_index RightBrace = 15
+mark_index Bang = 16
+mark_index Question = 17
+mark_index Star = 18
+mark_index Plus = 19
+mark_index Equal = 20
+mark_index PlusEqual = 3
+mark_index EqualEqual = 4
+mark_index BangEqual = 5
+mark_index Iff = 0
 
 abbrev mark_list : List (List ℕ)
 mark_list = mark_spelling Iff ∷ mark_spelling DotDot ∷ mark_spelling ColonColon ∷ mark_spelling PlusEqual ∷ mark_spelling EqualEqual ∷ mark_spelling BangEqual ∷ mark_spelling Dot ∷ mark_spelling Comma ∷ mark_spelling Semicolon ∷ mark_spelling Colon ∷ mark_spelling LeftParen ∷ mark_spelling RightParen ∷ mark_spelling LeftBracket ∷ mark_spelling RightBracket ∷ mark_spelling LeftBrace ∷ mark_spelling RightBrace ∷ mark_spelling Bang ∷ mark_spelling Question ∷ mark_spelling Star ∷ mark_spelling Plus ∷ mark_spelling Equal ∷ []
 
-pub mark_place_small : (m : Mark) → mark_place m < 21
-mark_place_small Dot = omega arith
-mark_place_small DotDot = omega arith
-mark_place_small Comma = omega arith
-mark_place_small Semicolon = omega arith
-mark_place_small Colon = omega arith
-mark_place_small ColonColon = omega arith
-mark_place_small LeftParen = omega arith
-mark_place_small RightParen = omega arith
-mark_place_small LeftBracket = omega arith
-mark_place_small RightBracket = omega arith
-mark_place_small LeftBrace = omega arith
-mark_place_small RightBrace = omega arith
-mark_place_small Bang = omega arith
-mark_place_small Question = omega arith
-mark_place_small Star = omega arith
-mark_place_small Plus = omega arith
-mark_place_small Equal = omega arith
-mark_place_small PlusEqual = omega arith
-mark_place_small EqualEqual = omega arith
-mark_place_small BangEqual = omega arith
-mark_place_small Iff = omega arith
+pub mark_index_small : (m : Mark) → mark_index m < 21
+mark_index_small Dot = omega arith
+mark_index_small DotDot = omega arith
+mark_index_small Comma = omega arith
+mark_index_small Semicolon = omega arith
+mark_index_small Colon = omega arith
+mark_index_small ColonColon = omega arith
+mark_index_small LeftParen = omega arith
+mark_index_small RightParen = omega arith
+mark_index_small LeftBracket = omega arith
+mark_index_small RightBracket = omega arith
+mark_index_small LeftBrace = omega arith
+mark_index_small RightBrace = omega arith
+mark_index_small Bang = omega arith
+mark_index_small Question = omega arith
+mark_index_small Star = omega arith
+mark_index_small Plus = omega arith
+mark_index_small Equal = omega arith
+mark_index_small PlusEqual = omega arith
+mark_index_small EqualEqual = omega arith
+mark_index_small BangEqual = omega arith
+mark_index_small Iff = omega arith
 
-mark_found : (m : Mark) → place_in mark_list (mark_spelling m) ≡ mark_place m
+mark_found : (m : Mark) → index_in mark_list (mark_spelling m) ≡ mark_index m
 mark_found Dot = refl
 mark_found DotDot = refl
 mark_found Comma = refl
@@ -201,7 +201,7 @@ mark_found EqualEqual = refl
 mark_found BangEqual = refl
 mark_found Iff = refl
 
-pub mark_listed : (m d : Mark) → get_or MARKS (mark_place m) d ≡ m
+pub mark_listed : (m d : Mark) → get_or MARKS (mark_index m) d ≡ m
 mark_listed Dot d = refl
 mark_listed DotDot d = refl
 mark_listed Comma d = refl
@@ -251,19 +251,19 @@ chars-mark_spelling Iff = refl
 -- a spelling is that of one mark
 pub mark_spelling-inj : (m n : Mark) → mark_spelling m ≡ mark_spelling n → m ≡ n
 mark_spelling-inj m n e =
-    let places : mark_place m ≡ mark_place n = sym (mark_found m) ∙ ap (place_in mark_list) e ∙ mark_found n in
-    sym (mark_listed m m) ∙ ap (λ i. get_or MARKS i m) places ∙ mark_listed n m
+    let indices : mark_index m ≡ mark_index n = sym (mark_found m) ∙ ap (index_in mark_list) e ∙ mark_found n in
+    sym (mark_listed m m) ∙ ap (λ i. get_or MARKS i m) indices ∙ mark_listed n m
 
-pub mark_at : (m d : Mark) (i : ℕ) → mark_place m ≡ i → get_or MARKS i d ≡ m
+pub mark_at : (m d : Mark) (i : ℕ) → mark_index m ≡ i → get_or MARKS i d ≡ m
 mark_at m d i e = ap (λ n. get_or MARKS n d) (sym e) ∙ mark_listed m d
 
 -- three bytes, then two, then one
-record Sized (place size : ℕ) : Type 0 where
-  pub three : place < 1 → size ≡ 3
-  pub two : 0 < place → place < 6 → size ≡ 2
-  pub one : 5 < place → size ≡ 1
+record Sized (index size : ℕ) : Type 0 where
+  pub three : index < 1 → size ≡ 3
+  pub two : 0 < index → index < 6 → size ≡ 2
+  pub one : 5 < index → size ≡ 1
 
-mark_sized : (m : Mark) → Sized (mark_place m) (length (mark_spelling m))
+mark_sized : (m : Mark) → Sized (mark_index m) (length (mark_spelling m))
 mark_sized Dot = record { three = λ h. omega arith; two = λ g h. omega arith; one = λ h. omega arith }
 mark_sized DotDot = record { three = λ h. omega arith; two = λ g h. omega arith; one = λ h. omega arith }
 mark_sized Comma = record { three = λ h. omega arith; two = λ g h. omega arith; one = λ h. omega arith }
@@ -290,5 +290,5 @@ sized : (i j a b : ℕ) → i ≤ j → Sized i a → Sized j b → b ≤ a
 sized i j a b h x y = grind (arith, x.three, x.two, x.one, y.three, y.two, y.one)
 
 -- a mark is no longer than one before it
-pub mark_longest : (m n : Mark) → mark_place m ≤ mark_place n → length (mark_spelling n) ≤ length (mark_spelling m)
-mark_longest m n h = sized (mark_place m) (mark_place n) (length (mark_spelling m)) (length (mark_spelling n)) h (mark_sized m) (mark_sized n)
+pub mark_longest : (m n : Mark) → mark_index m ≤ mark_index n → length (mark_spelling n) ≤ length (mark_spelling m)
+mark_longest m n h = sized (mark_index m) (mark_index n) (length (mark_spelling m)) (length (mark_spelling n)) h (mark_sized m) (mark_sized n)

@@ -1,4 +1,4 @@
--- What the code takes from the front of a text.
+-- What the code takes from the beginning of a text.
 use Rattle.std.proofs.Common.{◌≡◌, ◌∙◌, ℕ, ◌≤◌, ◌<◌, List, [], ◌∷◌, ◌++◌, length, refl, sym, ap, inl, inr, subst, arith, true, append_assoc, Option, Some, None, IfNone, IfSome, Bor}
 use Rattle.std.specs.Char.{is_ascii_digit}
 use Rattle.std.specs.Str.{encode_utf8_all, chars, IsUtf8}
@@ -9,12 +9,12 @@ use Rattle.rf_lexer.specs.Gap.{BeginsNoGap, IsPastOne}
 use Rattle.rf_lexer.specs.Kind.{IsLongest}
 use Rattle.rf_text.specs.Identifier.{IsQuoted, is_in_quotes, starts_identifier}
 use Rattle.rf_lexer.specs.Lexeme.{IsNumber}
-use Rattle.rf_lexer.specs.Scan.{IsClosed, IsIdentifierTo, IsLongestMark, IsNumberTo, IsSpan, Takes}
+use Rattle.rf_lexer.specs.Private.Scan.{IsClosed, IsIdentifierTo, IsLongestMark, IsNumberTo, IsSpan, Takes}
 use Rattle.rf_lexer.specs.Spelling.{keyword_spelling, mark_spelling}
 use Rattle.rf_lexer.specs.declared.keyword.Keyword.{Keyword}
 use Rattle.rf_lexer.specs.declared.mark.Mark.{Mark as AnyMark}
 use Rattle.rf_lexer.specs.declared.token.Kind.TheVariants.{Word, Name, Quoted, Mark}
-use Rattle.rf_lexer.proofs.Fronts.{span_longest}
+use Rattle.rf_lexer.proofs.Prefixes.{span_longest}
 use Rattle.rf_lexer.proofs.Gaps.{past_from_block}
 use Rattle.rf_lexer.proofs.Longest.{none_longer_identifier, none_longer_mark, none_longer_quoted}
 use Rattle.rf_lexer.proofs.Spellings.{encodes-keyword_spelling}
@@ -74,33 +74,33 @@ long_name cs rest bytes i e none long =
 
 -- a quoted name
 quoted_longest_at :
-    (cs rest behind bytes : List ℕ) (s : IsSpan is_in_quotes cs rest) → rest ≡ 39 ∷ behind → bytes ≡ encode_utf8_all s.front →
-    IsLongest (Quoted bytes) (39 ∷ cs) behind
-quoted_longest_at cs rest behind bytes s quote e =
-    let joined : 39 ∷ cs ≡ (39 ∷ (s.front ++ 39 ∷ [])) ++ behind =
-    ap (λ l. 39 ∷ l) (s.joined ∙ ap (λ l. s.front ++ l) quote ∙ sym (append_assoc s.front (39 ∷ []) behind)) in
-    let quoted : IsQuoted s.front (39 ∷ (s.front ++ 39 ∷ [])) = record { joined = refl; plain = s.each } in
+    (cs rest suffix bytes : List ℕ) (s : IsSpan is_in_quotes cs rest) → rest ≡ 39 ∷ suffix → bytes ≡ encode_utf8_all s.prefix →
+    IsLongest (Quoted bytes) (39 ∷ cs) suffix
+quoted_longest_at cs rest suffix bytes s quote e =
+    let joined : 39 ∷ cs ≡ (39 ∷ (s.prefix ++ 39 ∷ [])) ++ suffix =
+    ap (λ l. 39 ∷ l) (s.joined ∙ ap (λ l. s.prefix ++ l) quote ∙ sym (append_assoc s.prefix (39 ∷ []) suffix)) in
+    let quoted : IsQuoted s.prefix (39 ∷ (s.prefix ++ 39 ∷ [])) = record { joined = refl; plain = s.each } in
     record {
-      lexeme = 39 ∷ (s.front ++ 39 ∷ []);
+      lexeme = 39 ∷ (s.prefix ++ 39 ∷ []);
       joined = joined;
-      spelled = (s.front, quoted, e);
-      longest = none_longer_quoted (39 ∷ cs) s.front (39 ∷ (s.front ++ 39 ∷ [])) behind joined quoted;
+      spelled = (s.prefix, quoted, e);
+      longest = none_longer_quoted (39 ∷ cs) s.prefix (39 ∷ (s.prefix ++ 39 ∷ [])) suffix joined quoted;
     }
 
 pub takes_quoted :
-    (cs rest behind bytes name : List ℕ) (s : IsSpan is_in_quotes cs rest) → rest ≡ 39 ∷ behind → bytes ≡ encode_utf8_all s.front →
-    length bytes ≤ 255 → name ≡ bytes → Takes (Quoted name) (39 ∷ cs) behind
-takes_quoted cs rest behind bytes name s quote e short same = record {
-  longest = subst (λ (t : List ℕ). IsLongest (Quoted t) (39 ∷ cs) behind) (sym same) (quoted_longest_at cs rest behind bytes s quote e);
+    (cs rest suffix bytes name : List ℕ) (s : IsSpan is_in_quotes cs rest) → rest ≡ 39 ∷ suffix → bytes ≡ encode_utf8_all s.prefix →
+    length bytes ≤ 255 → name ≡ bytes → Takes (Quoted name) (39 ∷ cs) suffix
+takes_quoted cs rest suffix bytes name s quote e short same = record {
+  longest = subst (λ (t : List ℕ). IsLongest (Quoted t) (39 ∷ cs) suffix) (sym same) (quoted_longest_at cs rest suffix bytes s quote e);
   short = λ long. let size : length name ≡ length bytes = ap length same in absurd (omega (arith, long));
   small = λ x. x;
 }
 
 pub long_quoted :
-    (cs rest behind bytes : List ℕ) (s : IsSpan is_in_quotes cs rest) → rest ≡ 39 ∷ behind → bytes ≡ encode_utf8_all s.front →
+    (cs rest suffix bytes : List ℕ) (s : IsSpan is_in_quotes cs rest) → rest ≡ 39 ∷ suffix → bytes ≡ encode_utf8_all s.prefix →
     255 < length bytes → IsLongNameAt (39 ∷ cs)
-long_quoted cs rest behind bytes s quote e long =
-    record { kind = Quoted bytes; rest = behind; longest = quoted_longest_at cs rest behind bytes s quote e; long = long }
+long_quoted cs rest suffix bytes s quote e long =
+    record { kind = Quoted bytes; rest = suffix; longest = quoted_longest_at cs rest suffix bytes s quote e; long = long }
 
 -- a mark
 pub takes_mark : (m : AnyMark) (cs rest : List ℕ) → IsLongestMark m cs rest → Takes (Mark m) cs rest
@@ -115,42 +115,42 @@ pub identifier_to :
     (cs after rest : List ℕ) (c : ℕ) → starts_identifier c ≡ true → cs ≡ c ∷ after → IsSpan is_xid_continue after rest →
     IsIdentifierTo cs rest
 identifier_to cs after rest c starts e s = record {
-  word = c ∷ s.front;
+  word = c ∷ s.prefix;
   joined = e ∙ ap (λ l. c ∷ l) s.joined;
   identifier = (starts, s.each);
   ends = s.ends;
 }
 
 -- how far a number goes
-zero_only : (c : ℕ) (after front behind : List ℕ) → c ≡ 48 → IsNumber front → c ∷ after ≡ front ++ behind → length front ≤ 1
-zero_only c after [] behind z n e = absurd n
-zero_only c after (d ∷ ds) behind z (inl n) e = omega (arith, ap length n.1)
-zero_only c after (d ∷ ds) behind z (inr n) e = let same : c ≡ d = cc in absurd (omega (arith, n.0))
+zero_only : (c : ℕ) (after prefix suffix : List ℕ) → c ≡ 48 → IsNumber prefix → c ∷ after ≡ prefix ++ suffix → length prefix ≤ 1
+zero_only c after [] suffix z n e = absurd n
+zero_only c after (d ∷ ds) suffix z (inl n) e = omega (arith, ap length n.1)
+zero_only c after (d ∷ ds) suffix z (inr n) e = let same : c ≡ d = cc in absurd (omega (arith, n.0))
 
 pub number_zero : (c : ℕ) (after : List ℕ) → c ≡ 48 → IsNumberTo (c ∷ after) after
 number_zero c after z = record {
   digits = c ∷ [];
   joined = refl;
   number = inl (z, refl);
-  ends = λ front behind n e. zero_only c after front behind z n e;
+  ends = λ prefix suffix n e. zero_only c after prefix suffix z n e;
 }
 
 digits_only :
-    (c : ℕ) (after rest front behind : List ℕ) (s : IsSpan is_ascii_digit after rest) → IsNumber front →
-    c ∷ after ≡ front ++ behind → length front ≤ length (c ∷ s.front)
-digits_only c after rest [] behind s n e = absurd n
-digits_only c after rest (d ∷ ds) behind s (inl n) e = omega (arith, ap length n.1)
-digits_only c after rest (d ∷ ds) behind s (inr n) e =
-    let tails : after ≡ ds ++ behind = cc in
-    let short = span_longest is_ascii_digit s.front ds rest behind n.2 s.ends (sym s.joined ∙ tails) in
+    (c : ℕ) (after rest prefix suffix : List ℕ) (s : IsSpan is_ascii_digit after rest) → IsNumber prefix →
+    c ∷ after ≡ prefix ++ suffix → length prefix ≤ length (c ∷ s.prefix)
+digits_only c after rest [] suffix s n e = absurd n
+digits_only c after rest (d ∷ ds) suffix s (inl n) e = omega (arith, ap length n.1)
+digits_only c after rest (d ∷ ds) suffix s (inr n) e =
+    let tails : after ≡ ds ++ suffix = cc in
+    let short = span_longest is_ascii_digit s.prefix ds rest suffix n.2 s.ends (sym s.joined ∙ tails) in
     omega arith
 
 pub number_digits : (c : ℕ) (after rest : List ℕ) → 49 ≤ c → c ≤ 57 → IsSpan is_ascii_digit after rest → IsNumberTo (c ∷ after) rest
 number_digits c after rest low high s = record {
-  digits = c ∷ s.front;
+  digits = c ∷ s.prefix;
   joined = ap (λ l. c ∷ l) s.joined;
   number = inr (low, high, s.each);
-  ends = λ front behind n e. digits_only c after rest front behind s n e;
+  ends = λ prefix suffix n e. digits_only c after rest prefix suffix s n e;
 }
 
 -- a text with a byte has a character

@@ -6,8 +6,8 @@ abbrev pub StopsAt : (ℕ → Bool) → List ℕ → Type 0
 StopsAt p [] = Unit {0}
 StopsAt p (c ∷ cs) = p c ≡ false
 
--- these characters stand somewhere in cs, one behind the other
+-- these characters are somewhere in cs, one after the other
 pub record StandsIn (these cs : List ℕ) : Type 0 where
   pub before : List ℕ
-  pub behind : List ℕ
-  pub joined : cs ≡ before ++ (these ++ behind)
+  pub suffix : List ℕ
+  pub joined : cs ≡ before ++ (these ++ suffix)

@@ -1,4 +1,4 @@
--- What may stand between lexemes.
+-- What may be between lexemes.
 use Rattle.std.specs.Prelude.{◌≡◌, ℕ, zero, suc, Bool, not, ◌||◌, ◌==◌, ◌⊎◌, IsTrue, List, [], ◌∷◌, ◌++◌, codes}
 use Rattle.rf_text.specs.Identifier.{EachPasses}
 use Rattle.rf_lexer.specs.Characters.{StandsIn, StopsAt}
@@ -21,7 +21,7 @@ pub record IsLineComment (piece rest : List ℕ) : Type 0 where
   pub line : EachPasses is_in_line body
   pub ended : StopsAt is_in_line rest
 
--- from `/*` to the next `*/` behind it
+-- from `/*` to the next `*/` after it
 pub record IsBlockComment (piece : List ℕ) : Type 0 where
   pub body : List ℕ
   pub joined : piece ≡ codes "/*" ++ (body ++ codes "*/")
@@ -37,11 +37,11 @@ pub record IsPastOne (cs rest : List ℕ) : Type 0 where
 abbrev pub BeginsNoGap : List ℕ → Type 0
 BeginsNoGap cs = (rest : List ℕ) → IsPastOne cs rest → ⊥
 
--- so many spaces and comments stand in front of rest
+-- cs are `count` spaces and comments, and then rest
 abbrev pub IsPast : ℕ → List ℕ → List ℕ → Type 0
 IsPast zero cs rest = cs ≡ rest
 IsPast (suc count) cs rest = (after : List ℕ) × IsPastOne cs after × IsPast count after rest
 
--- only spaces and comments stand in front of rest
+-- cs are spaces and comments alone, and then rest
 abbrev pub IsGap : List ℕ → List ℕ → Type 0
 IsGap cs rest = (count : ℕ) × IsPast count cs rest

@@ -17,12 +17,12 @@ Spells (Quoted t) cs = (name : List ℕ) × IsQuoted name cs × (t ≡ encode_ut
 Spells (Number n) cs = IsNumber cs × (n ≡ digits_value 10 cs)
 Spells (Mark m) cs = cs ≡ mark_spelling m
 
--- the longest lexeme that cs begin with is of this kind, and rest stands behind it
+-- the longest lexeme that cs begin with is of this kind, and rest follows it
 pub record IsLongest (kind : Kind) (cs rest : List ℕ) : Type 0 where
   pub lexeme : List ℕ
   pub joined : cs ≡ lexeme ++ rest
   pub spelled : Spells kind lexeme
-  pub longest : (other : Kind) (front behind : List ℕ) → Spells other front → cs ≡ front ++ behind → length front ≤ length lexeme
+  pub longest : (other : Kind) (prefix suffix : List ℕ) → Spells other prefix → cs ≡ prefix ++ suffix → length prefix ≤ length lexeme
 
 -- a name of more than 255 bytes
 abbrev pub IsLongName : Kind → Type 0

@@ -4,6 +4,6 @@ pub mod Gap
 pub mod Kind
 pub mod Laws
 pub mod Lexeme
-pub mod Scan
+pub mod Private
 pub mod Spelling
 pub mod Tokens

@@ -5,11 +5,11 @@ use Rattle.rf_lexer.specs.Gap.{IsGap}
 use Rattle.rf_lexer.specs.Kind.{IsBigNumber, IsLongest, IsLongName}
 use Rattle.rf_lexer.specs.declared.token.Token.{Token}
 
--- of so many bytes, so many stand before the characters rest, which are the last ones
+-- of `size` bytes the first `offset` are before the characters rest, which are the last ones
 abbrev pub StandsAt : ℕ → ℕ → List ℕ → Type 0
-StandsAt size place rest = place + length (encode_utf8_all rest) ≡ size
+StandsAt size offset rest = offset + length (encode_utf8_all rest) ≡ size
 
--- in a text of so many bytes the token is the longest lexeme that cs begin with, and rest stands behind it
+-- in a text of `size` bytes the token is the longest lexeme that cs begin with, and rest follows it
 pub record IsToken (size : ℕ) (token : Token) (cs rest : List ℕ) : Type 0 where
   pub longest : IsLongest token.kind cs rest
   pub short : IsLongName token.kind → ⊥

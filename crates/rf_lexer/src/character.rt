@@ -1,7 +1,7 @@
-//! A text as its characters: the first one, and the longest front of one set.
+//! A text as its characters: the first one, and the longest prefix of one set.
 ghost use Rattle.std.specs.Prelude.{◌≡◌, ◌+◌, ◌<◌, ◌≤◌, [], ◌∷◌, ◌++◌, List, ℕ, length, IfSome, IfNone, IsUtf8};
 ghost use Rattle.std.specs.Str.{chars, encode_utf8_all};
-ghost use Rattle.rf_lexer.specs.Scan.{IsSpan, set_test, IsEnd};
+ghost use Rattle.rf_lexer.specs.Private.Scan.{IsSpan, set_test, IsEnd};
 
 /// A set of characters.
 #[derive(Clone, Copy)]
@@ -10,7 +10,7 @@ pub enum CharSet {
     InName,
     /// All but the two that end a line.
     InLine,
-    /// All that may stand between quotes.
+    /// All that may be between quotes.
     InQuotes,
     Digit,
 }
@@ -26,7 +26,7 @@ pub fn is_in(c: char, set: CharSet) -> bool
     }
 }
 
-/// The first character, and what stands behind it.
+/// The first character, and what follows it.
 pub fn first_char(text: &str) -> Option<(char, &str)>
     ensures found { IfSome result (λ p. chars text.now ≡ p.0 ∷ chars p.1.now) }
     ensures shorter { IfSome result (λ p. length p.1.now < length text.now) }
@@ -38,8 +38,8 @@ pub fn first_char(text: &str) -> Option<(char, &str)>
     Some((first, rest.as_str()))
 }
 
-/// What stands behind the longest front whose characters are all in the set.
-pub fn behind_all(text: &str, set: CharSet) -> &str
+/// What follows the longest prefix whose characters are all in the set.
+pub fn skip_all(text: &str, set: CharSet) -> &str
     ensures span { IsSpan (set_test set) (chars text.now) (chars result.now) }
     ensures bound { length result.now ≤ length text.now }
 {
@@ -61,10 +61,10 @@ pub fn size(text: &str) -> u64
     text.len() as u64
 }
 
-/// What stands in a text before the rest, which is its end.
+/// What is in a text before the rest, which is its end.
 pub fn before<'a>(text: &'a str, rest: &str) -> &'a str
     requires { IsEnd (chars text.now) (chars rest.now) }
-    ensures { (front : List ℕ) → chars text.now ≡ front ++ chars rest.now → result.now ≡ encode_utf8_all front }
+    ensures { (prefix : List ℕ) → chars text.now ≡ prefix ++ chars rest.now → result.now ≡ encode_utf8_all prefix }
 {
     &text[..text.len() - rest.len()]
 }

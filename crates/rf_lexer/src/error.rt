@@ -1,10 +1,6 @@
-ghost use Rattle.std.specs.Prelude.{◌≡◌};
-ghost use Rattle.rf_lexer.specs.declared.error.LexError.TheVariants.{Memory};
-
-use std::alloc::{AllocError, AllocFailed};
 use thiserror::Error;
 
-/// Why a text is no tokens, with the place of the byte where that shows, from 0.
+/// Why a text isn't tokens, with the offset of the byte where that shows, from 0.
 #[derive(Clone, Copy, Debug, PartialEq, Eq, Error)]
 pub enum LexError {
     /// A character that begins nothing.
@@ -22,22 +18,4 @@ pub enum LexError {
     /// A number above 1,000,000.
     #[error("big number")]
     BigNumber(u64),
-    #[error("out of memory")]
-    Memory,
-}
-
-impl From<AllocError> for LexError {
-    ghost from_gives = { λ _ e. e ≡ Memory };
-
-    fn from(_: AllocError) -> LexError {
-        LexError::Memory
-    }
-}
-
-impl<T: Drop> From<AllocFailed<T>> for LexError {
-    ghost from_gives = { λ _ e. e ≡ Memory };
-
-    fn from(_: AllocFailed<T>) -> LexError {
-        LexError::Memory
-    }
 }

@@ -5,19 +5,16 @@ mod character;
 mod error;
 mod keyword;
 mod laws;
+mod lexing;
 mod mark;
 mod names;
 mod numbers;
-mod reading;
 mod space;
 mod token;
 
 pub use error::LexError;
 pub use keyword::Keyword;
 pub use laws::keywords_law;
+pub use lexing::lex;
 pub use mark::Mark;
-pub use reading::lex;
 pub use token::{Kind, Token};
-
-#[cfg(test)]
-mod tests;

@@ -1,6 +1,6 @@
 ghost use Rattle.std.specs.Prelude.{◌≡◌, ◌<◌, ◌≤◌, ◌++◌, length, IfSome, IfNone, IsUtf8};
 ghost use Rattle.std.specs.Str.{chars};
-ghost use Rattle.rf_lexer.specs.Scan.{IsLongestMark};
+ghost use Rattle.rf_lexer.specs.Private.Scan.{IsLongestMark};
 ghost use Rattle.rf_lexer.specs.Spelling.{mark_spelling};
 
 use crate::character::first_char;
@@ -52,7 +52,7 @@ pub enum Mark {
     Iff,
 }
 
-// A mark that another one begins with stands behind that other one.
+// A mark follows each longer one that begins with it.
 const MARKS: [Mark; 21] = [
     Mark::Iff,
     Mark::DotDot,
@@ -109,8 +109,8 @@ impl Mark {
     }
 }
 
-// What stands behind these characters, where the text begins with them.
-fn behind<'a>(text: &'a str, these: &str) -> Option<&'a str>
+// What follows these characters, where the text begins with them.
+fn strip_prefix<'a>(text: &'a str, these: &str) -> Option<&'a str>
     ensures found { IfSome result (λ rest. chars text.now ≡ chars these.now ++ chars rest.now) }
     ensures shorter { IfSome result (λ rest. length rest.now ≤ length text.now) }
     ensures utf8 { IfSome result (λ rest. IsUtf8 rest.now) }
@@ -130,14 +130,14 @@ fn behind<'a>(text: &'a str, these: &str) -> Option<&'a str>
     Some(rest)
 }
 
-/// The longest mark that the text begins with, and what stands behind it.
+/// The longest mark that the text begins with, and what follows it.
 pub fn first_mark(text: &str) -> Option<(Mark, &str)>
     ensures found { IfSome result (λ p. IsLongestMark p.0 (chars text.now) (chars p.1.now)) }
     ensures shorter { IfSome result (λ p. length p.1.now < length text.now) }
     ensures none { IfNone result ((mark : _) (rest : _) → chars text.now ≡ mark_spelling mark ++ rest → ⊥) }
 {
     for i in 0..MARKS.len() {
-        if let Some(rest) = behind(text, MARKS[i].as_str()) {
+        if let Some(rest) = strip_prefix(text, MARKS[i].as_str()) {
             return Some((MARKS[i], rest));
         }
     }

@@ -2,12 +2,12 @@
 ghost use Rattle.std.specs.Prelude.{◌<◌, ◌≤◌, ◌≡◌, ◌∷◌, length, IfSome, IfNone, IsUtf8};
 ghost use Rattle.std.specs.Str.{chars};
 ghost use Rattle.rf_lexer.specs.Gap.{BeginsNoGap, IsGap, IsPastOne, is_space};
-ghost use Rattle.rf_lexer.specs.Scan.{IsClosed, IsNotClosed};
+ghost use Rattle.rf_lexer.specs.Private.Scan.{IsClosed, IsNotClosed};
 
-use crate::character::{CharSet, behind_all, first_char};
+use crate::character::{CharSet, first_char, skip_all};
 
-// What stands behind the next `*/`.
-fn behind_close(text: &str) -> Option<&str>
+// What follows the next `*/`.
+fn skip_to_close(text: &str) -> Option<&str>
     ensures found { IfSome result (λ rest. IsClosed (chars text.now) (chars rest.now)) }
     ensures shorter { IfSome result (λ rest. length rest.now ≤ length text.now) }
     ensures utf8 { IfSome result (λ rest. IsUtf8 rest.now) }
@@ -15,16 +15,16 @@ fn behind_close(text: &str) -> Option<&str>
 {
     let mut rest = text;
     'close: while let Some((first, after)) = first_char(rest) {
-        if let Some(behind) = behind_slash(first, after) {
-            return Some(behind);
+        if let Some(suffix) = skip_slash(first, after) {
+            return Some(suffix);
         }
         rest = after;
     }
     None
 }
 
-// What stands behind a `/`, where the character before it is `*`.
-fn behind_slash(first: char, after: &str) -> Option<&str>
+// What follows a `/`, where the character before it is `*`.
+fn skip_slash(first: char, after: &str) -> Option<&str>
     ensures found { IfSome result (λ rest. (first ≡ 42) × (chars after.now ≡ 47 ∷ chars rest.now)) }
     ensures shorter { IfSome result (λ rest. length rest.now < length after.now) }
     ensures utf8 { IfSome result (λ rest. IsUtf8 rest.now) }
@@ -34,13 +34,13 @@ fn behind_slash(first: char, after: &str) -> Option<&str>
         return None;
     }
     match first_char(after) {
-        Some(('/', behind)) => Some(behind),
+        Some(('/', suffix)) => Some(suffix),
         _ => None,
     }
 }
 
-// What stands behind a comment whose first character, `/`, is in front of this.
-fn behind_comment(after: &str) -> Option<&str>
+// What follows a comment whose first character, `/`, is right before `after`.
+fn skip_comment(after: &str) -> Option<&str>
     ensures found { IfSome result (λ rest. IsPastOne (47 ∷ chars after.now) (chars rest.now)) }
     ensures shorter { IfSome result (λ rest. length rest.now < length after.now) }
     ensures utf8 { IfSome result (λ rest. IsUtf8 rest.now) }
@@ -48,8 +48,8 @@ fn behind_comment(after: &str) -> Option<&str>
 {
     let (second, after) = first_char(after)?;
     match second {
-        '/' => Some(behind_all(after, CharSet::InLine)),
-        '*' => behind_close(after),
+        '/' => Some(skip_all(after, CharSet::InLine)),
+        '*' => skip_to_close(after),
         _ => None,
     }
 }
@@ -60,8 +60,8 @@ fn is_space(c: char) -> bool
     c == ' ' || (c == '\t' || (c == '\n' || c == '\r'))
 }
 
-// What stands behind the one space or comment that the text begins with.
-fn behind_one(text: &str) -> Option<&str>
+// What follows the one space or comment that the text begins with.
+fn skip_one(text: &str) -> Option<&str>
     ensures found { IfSome result (λ rest. IsPastOne (chars text.now) (chars rest.now)) }
     ensures shorter { IfSome result (λ rest. length rest.now < length text.now) }
     ensures utf8 { IfSome result (λ rest. IsUtf8 rest.now) }
@@ -72,20 +72,20 @@ fn behind_one(text: &str) -> Option<&str>
         return Some(after);
     }
     match first {
-        '%' => Some(behind_all(after, CharSet::InLine)),
-        '/' => behind_comment(after),
+        '%' => Some(skip_all(after, CharSet::InLine)),
+        '/' => skip_comment(after),
         _ => None,
     }
 }
 
-/// What stands behind all spaces and comments that the text begins with.
-pub fn behind_gap(text: &str) -> &str
+/// What follows all spaces and comments that the text begins with.
+pub fn skip_gap(text: &str) -> &str
     ensures gap { IsGap (chars text.now) (chars result.now) }
     ensures all { BeginsNoGap (chars result.now) }
     ensures bound { length result.now ≤ length text.now }
 {
     let mut rest = text;
-    'gap: while let Some(after) = behind_one(rest) {
+    'gap: while let Some(after) = skip_one(rest) {
         rest = after;
     }
     rest

@@ -5,7 +5,7 @@ use rf_text::Text;
 #[derive(Clone, Debug, Drop)]
 pub enum Kind {
     Word(Keyword),
-    /// An identifier that is no keyword.
+    /// An identifier that isn't a keyword.
     Name(Text),
     /// A name between single quotes, without them. It may be empty.
     Quoted(Text),
@@ -14,7 +14,7 @@ pub enum Kind {
     Mark(Mark),
 }
 
-/// A token, and the places of its first byte and of the byte behind its last one, from 0.
+/// A token, and the offsets of its first byte and of the byte after its last one, from 0.
 #[derive(Clone, Debug, Drop)]
 pub struct Token {
     pub kind: Kind,

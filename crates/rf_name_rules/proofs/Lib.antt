@@ -1,4 +1,3 @@
-pub mod JoinedPlaces
-pub mod LiteralPlaces
-pub mod NumberedPlaces
+pub mod JoinedOffsets
+pub mod NumberedOffsets
 pub mod RepeatedNames

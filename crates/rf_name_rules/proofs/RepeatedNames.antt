@@ -14,10 +14,10 @@ use Rattle.std.proofs.lemmas.Map.Text.{is_eq-slice_cmp}
 use Rattle.std.proofs.lemmas.Slice.Eq.{bytes_eq-Decides}
 use denote.Ref.{Bor}
 use Rattle.rf_syntax.specs.declared.name.Name.{Name}
-use Rattle.rf_names.specs.LeastPlace.{least_of, lesser, place_if}
+use Rattle.rf_names.specs.Offsets.{least_of, lesser, offset_if}
 use Rattle.rf_names.specs.LookUp.{is_text_of}
-use Rattle.rf_name_rules.specs.Places.{repeated}
-use Rattle.rf_names.proofs.LeastPlaces.{least_of_append}
+use Rattle.rf_name_rules.specs.RuleOffsets.{repeated}
+use Rattle.rf_names.proofs.LeastOffsets.{least_of_append}
 
 abbrev pub text_cmp : Bor (List ℕ) → Bor (List ℕ) → Ordering
 text_cmp x y = slice_cmp nat_cmp x.now y.now
@@ -26,16 +26,16 @@ text_cmp x y = slice_cmp nat_cmp x.now y.now
 abbrev pub Marks : List Name → BTreeSet (Bor (List ℕ)) → Type 0
 Marks names seen = (q : Bor (List ℕ)) → contains text_cmp seen q ≡ list_any (λ name. bytes_eq q.now name.text) names
 
--- the texts behind these names
+-- the texts after these names
 abbrev texts_after : List (List ℕ) → List Name → List (List ℕ)
 texts_after seen [] = seen
 texts_after seen (n ∷ ns) = texts_after (n.text ∷ seen) ns
 
-repeated_snoc : (seen : List (List ℕ)) (names : List Name) (name : Name) → repeated seen (names ++ name ∷ []) ≡ repeated seen names ++ place_if (is_text_of (texts_after seen names) name) name.at
-repeated_snoc seen [] name = append-nil (place_if (is_text_of seen name) name.at)
+repeated_snoc : (seen : List (List ℕ)) (names : List Name) (name : Name) → repeated seen (names ++ name ∷ []) ≡ repeated seen names ++ offset_if (is_text_of (texts_after seen names) name) name.at
+repeated_snoc seen [] name = append-nil (offset_if (is_text_of seen name) name.at)
 repeated_snoc seen (n ∷ ns) name =
-    ap (λ ats. place_if (is_text_of seen n) n.at ++ ats) (repeated_snoc (n.text ∷ seen) ns name)
-    ∙ sym (append_assoc (place_if (is_text_of seen n) n.at) (repeated (n.text ∷ seen) ns) (place_if (is_text_of (texts_after (n.text ∷ seen) ns) name) name.at))
+    ap (λ ats. offset_if (is_text_of seen n) n.at ++ ats) (repeated_snoc (n.text ∷ seen) ns name)
+    ∙ sym (append_assoc (offset_if (is_text_of seen n) n.at) (repeated (n.text ∷ seen) ns) (offset_if (is_text_of (texts_after (n.text ∷ seen) ns) name) name.at))
 
 turned : (a b c : Bool) → ((a || b) || c) ≡ (b || (a || c))
 turned true true c = refl
@@ -85,17 +85,17 @@ not_not : (a : Bool) → not (not a) ≡ a
 not_not true = refl
 not_not false = refl
 
-pub one_more_place :
-    (kept : List (List ℕ)) (names : List Name) (name : Name) (seen : BTreeSet (Bor (List ℕ))) (k : Bor (List ℕ)) (broken is_new : Bool) (least part next : Option ℕ) →
-    k.now ≡ name.text → Marks names seen → is_new ≡ not (contains text_cmp seen k) → broken ≡ (is_text_of kept name || not is_new) →
-    least ≡ least_of (repeated kept names) → part ≡ least_of (place_if broken name.at) → next ≡ lesser least part → next ≡ least_of (repeated kept (names ++ name ∷ []))
-one_more_place kept names name seen k broken is_new least part next reads marks new is before here joined =
+pub one_more_offset :
+    (reserved : List (List ℕ)) (names : List Name) (name : Name) (seen : BTreeSet (Bor (List ℕ))) (k : Bor (List ℕ)) (broken is_new : Bool) (least part next : Option ℕ) →
+    k.now ≡ name.text → Marks names seen → is_new ≡ not (contains text_cmp seen k) → broken ≡ (is_text_of reserved name || not is_new) →
+    least ≡ least_of (repeated reserved names) → part ≡ least_of (offset_if broken name.at) → next ≡ lesser least part → next ≡ least_of (repeated reserved (names ++ name ∷ []))
+one_more_offset reserved names name seen k broken is_new least part next reads marks new is before here joined =
     let there : not is_new ≡ list_any (λ n. bytes_eq name.text n.text) names =
     ap not new ∙ not_not (contains text_cmp seen k) ∙ marks k ∙ ap (λ text. list_any (λ n. bytes_eq text n.text) names) reads in
-    let test : broken ≡ is_text_of (texts_after kept names) name = is ∙ ap (λ b. is_text_of kept name || b) there ∙ sym (among_after kept names name) in
-    joined ∙ ap (λ a. lesser a part) before ∙ ap (lesser (least_of (repeated kept names))) (here ∙ ap (λ b. least_of (place_if b name.at)) test)
-    ∙ sym (least_of_append (repeated kept names) (place_if (is_text_of (texts_after kept names) name) name.at))
-    ∙ ap least_of (sym (repeated_snoc kept names name))
+    let test : broken ≡ is_text_of (texts_after reserved names) name = is ∙ ap (λ b. is_text_of reserved name || b) there ∙ sym (among_after reserved names name) in
+    joined ∙ ap (λ a. lesser a part) before ∙ ap (lesser (least_of (repeated reserved names))) (here ∙ ap (λ b. least_of (offset_if b name.at)) test)
+    ∙ sym (least_of_append (repeated reserved names) (offset_if (is_text_of (texts_after reserved names) name) name.at))
+    ∙ ap least_of (sym (repeated_snoc reserved names name))
 
 -- one more of lent names
 pub names_more : (xs : List (Bor Name)) (i : ℕ) (x : Bor Name) → i < length xs → x ≡ get_or xs i x → map (λ (n : Bor Name). n.now) (take (i + 1) xs) ≡ map (λ (n : Bor Name). n.now) (take i xs) ++ x.now ∷ []
@@ -108,12 +108,12 @@ any_lent_text : (p : List ℕ → Bool) (xs : List (Bor (List ℕ))) → list_an
 any_lent_text p [] = refl
 any_lent_text p (x ∷ xs) = ap (λ b. p x.now || b) (any_lent_text p xs)
 
-any_text_at : (text : List ℕ) (kept : List (Bor (List ℕ))) (i : ℕ) (d : Bor (List ℕ)) → i < length kept → bytes_eq text (get_or kept i d).now ≡ true → list_any (λ t. bytes_eq text t) (map (λ (t : Bor (List ℕ)). t.now) kept) ≡ true
-any_text_at text kept i d below holds =
-    any_lent_text (λ t. bytes_eq text t) kept ∙ list_any_at (λ (t : Bor (List ℕ)). bytes_eq text t.now) kept i d below holds
+any_text_at : (text : List ℕ) (reserved : List (Bor (List ℕ))) (i : ℕ) (d : Bor (List ℕ)) → i < length reserved → bytes_eq text (get_or reserved i d).now ≡ true → list_any (λ t. bytes_eq text t) (map (λ (t : Bor (List ℕ)). t.now) reserved) ≡ true
+any_text_at text reserved i d below holds =
+    any_lent_text (λ t. bytes_eq text t) reserved ∙ list_any_at (λ (t : Bor (List ℕ)). bytes_eq text t.now) reserved i d below holds
 
 pub any_text_here :
-    (name text : List ℕ) (same : Bool) (kept : List (Bor (List ℕ))) (i : ℕ) (d : Bor (List ℕ)) → i < length kept → text ≡ name → same ≡ bytes_eq text (get_or kept i d).now → same ≡ true →
-    list_any (λ t. bytes_eq name t) (map (λ (t : Bor (List ℕ)). t.now) kept) ≡ true
-any_text_here name text same kept i d below reads is holds =
-    any_text_at name kept i d below (ap (λ n. bytes_eq n (get_or kept i d).now) (sym reads) ∙ sym is ∙ holds)
+    (name text : List ℕ) (same : Bool) (reserved : List (Bor (List ℕ))) (i : ℕ) (d : Bor (List ℕ)) → i < length reserved → text ≡ name → same ≡ bytes_eq text (get_or reserved i d).now → same ≡ true →
+    list_any (λ t. bytes_eq name t) (map (λ (t : Bor (List ℕ)). t.now) reserved) ≡ true
+any_text_here name text same reserved i d below reads is holds =
+    any_text_at name reserved i d below (ap (λ n. bytes_eq n (get_or reserved i d).now) (sym reads) ∙ sym is ∙ holds)

@@ -1,13 +1,13 @@
 //! Numbers of arguments.
 
-ghost use Rattle.std.specs.Prelude.{◌≡◌, ℕ, IfOk, length};
-ghost use Rattle.std.specs.List.{flat_map};
-ghost use Rattle.rf_names.specs.LeastPlace.{least_of};
+ghost use Rattle.std.specs.Prelude.{◌≡◌, IfOk, length};
+ghost use Rattle.rf_names.specs.Offsets.{least_of};
 ghost use Rattle.rf_names.specs.LookUp.{can_be_closed, parameters_of};
-ghost use Rattle.rf_name_rules.specs.Places.{arity_places, assertion_arity, bad_arity, fits_call};
+ghost use Rattle.rf_name_rules.specs.RuleOffsets.{arity_offsets, assertion_arity, bad_arity, fits_call, literal_arity};
 
-use crate::literals::{LiteralRule, least_in_literals};
-use rf_names::{AssertForm, Names, Sense, lesser, place_if};
+use rf_names::{
+    AssertDeclaration, Names, OffsetRule, Sense, least_among, least_in_literals, lesser, offset_if,
+};
 use rf_problem::Symbol;
 use rf_syntax::BodyLiteral;
 use std::alloc::{AllocError, Global};
@@ -47,27 +47,20 @@ fn bad_arity(names: &Names, sense: Sense, closure: bool, args: usize, at: u64) -
 {
     match sense {
         Sense::Nothing | Sense::Several => None,
-        Sense::One(symbol) => place_if(!fits_call(names, symbol, closure, args), at),
+        Sense::One(symbol) => offset_if(!fits_call(names, symbol, closure, args), at),
     }
 }
 
-// Literals whose symbol has another number of parameters.
+// The rule, for each kind of item in which such symbols may stand.
 #[derive(Clone, Copy)]
-struct ArityOfLiterals<'n, 'a> {
+struct Arities<'n, 'a> {
     names: &'n Names<'a>,
 }
 
-impl<'n, 'a> LiteralRule for ArityOfLiterals<'n, 'a> {
-    ghost use Rattle.rf_name_rules.specs.Places.{literal_arity};
+impl<'n, 'a> OffsetRule<BodyLiteral> for Arities<'n, 'a> {
+    ghost offsets = { λ rule. literal_arity rule.names.now.declared.now };
 
-    ghost places = { λ rule n. literal_arity rule.names.now.declared.now };
-
-    fn least_in(
-        &self,
-        alloc: Global,
-        _predicate: u64,
-        literal: &BodyLiteral,
-    ) -> Result<Option<u64>, AllocError> {
+    fn least_in(&self, alloc: Global, literal: &BodyLiteral) -> Result<Option<u64>, AllocError> {
         match literal {
             BodyLiteral::Call {
                 symbol,
@@ -83,43 +76,34 @@ impl<'n, 'a> LiteralRule for ArityOfLiterals<'n, 'a> {
     }
 }
 
-fn assertion_arity(
-    alloc: Global,
-    names: &Names,
-    assertion: &AssertForm,
-) -> Result<Option<u64>, AllocError>
-    ensures { IfOk result (λ at.
-        at ≡ least_of (assertion_arity names.now.declared.now assertion.now)) }
-{
-    let atom = assertion.atom;
-    let sense = names.assertion_sense(alloc, &atom.symbol)?;
-    Ok(bad_arity(names, sense, false, atom.args.len(), atom.symbol.name.at))
-}
+impl<'n, 'a> OffsetRule<AssertDeclaration<'a>> for Arities<'n, 'a> {
+    ghost offsets = { λ rule. assertion_arity rule.names.now.declared.now };
 
-#[tactic(auto, using(rf_names::proofs::LeastPlaces::least_steps))]
-fn in_assertions(
-    alloc: Global,
-    names: &Names,
-    assertions: &[AssertForm],
-) -> Result<Option<u64>, AllocError>
-    ensures { IfOk result (λ at.
-        at ≡ least_of (flat_map (assertion_arity names.now.declared.now) assertions.now)) }
-{
-    let mut least = None;
-    for assertion in assertions {
-        least = lesser(least, assertion_arity(alloc, names, assertion)?);
+    fn least_in(
+        &self,
+        alloc: Global,
+        assertion: &AssertDeclaration<'a>,
+    ) -> Result<Option<u64>, AllocError> {
+        let atom = assertion.atom;
+        let sense = self.names.assertion_sense(alloc, &atom.symbol)?;
+        Ok(bad_arity(
+            self.names,
+            sense,
+            false,
+            atom.args.len(),
+            atom.symbol.name.at,
+        ))
     }
-    Ok(least)
 }
 
-/// The least place of a symbol that doesn't fit its arguments, or the `+` behind it.
-#[tactic(auto, using(rf_names::proofs::LeastPlaces::least_steps))]
+/// The least offset of a symbol that doesn't fit its arguments, or the `+` after it.
+#[tactic(auto, using(rf_names::proofs::LeastOffsets::least_steps))]
 pub fn arity(alloc: Global, names: &Names) -> Result<Option<u64>, AllocError>
-    ensures { IfOk result (λ at. at ≡ least_of (arity_places names.now.declared.now)) }
+    ensures { IfOk result (λ at. at ≡ least_of (arity_offsets names.now.declared.now)) }
 {
+    let rule = Arities { names };
     let declared = names.declared;
-    let rule = ArityOfLiterals { names };
     let literals = least_in_literals(alloc, &rule, declared.predicates.as_slice())?;
-    let assertions = in_assertions(alloc, names, declared.assertions.as_slice())?;
+    let assertions = least_among(alloc, &rule, declared.assertions.as_slice())?;
     Ok(lesser(literals, assertions))
 }

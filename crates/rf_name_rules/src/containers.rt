@@ -1,17 +1,18 @@
 //! Containment and its opposites.
 
 ghost use Rattle.std.specs.Prelude.{◌≡◌, IfOk};
-ghost use Rattle.std.specs.List.{flat_map};
 ghost use Rattle.rf_problem.specs.Parts.{is_contains};
-ghost use Rattle.rf_names.specs.LeastPlace.{least_of};
-ghost use Rattle.rf_name_rules.specs.Places.{bad_container, bad_container_places, breaks_containment, is_contained_by};
+ghost use Rattle.rf_names.specs.Offsets.{least_of};
+ghost use Rattle.rf_name_rules.specs.RuleOffsets.{bad_container, bad_container_offsets, breaks_containment, is_contained_by};
 ghost use Rattle.rf_names.specs.Declarations.{kind_of_word};
 
-use rf_names::{Names, ReferenceForm, kind_of, lesser, opposite, place_if};
+use rf_names::{
+    Names, OffsetRule, ReferenceDeclaration, kind_of, least_among, offset_if, opposite,
+};
 use rf_problem::RefKind;
 use std::alloc::{AllocError, Global};
 
-fn contains(reference: &ReferenceForm) -> bool
+fn contains(reference: &ReferenceDeclaration) -> bool
     ensures { result ≡ is_contains (kind_of_word reference.now.feature.word) }
 {
     matches!(kind_of(reference.feature.word), RefKind::Contains)
@@ -40,38 +41,40 @@ fn breaks_containment(kind: RefKind, opposite_contains: bool) -> bool
     }
 }
 
-fn bad(alloc: Global, names: &Names, reference: &ReferenceForm) -> Result<Option<u64>, AllocError>
-    ensures { IfOk result (λ at.
-        at ≡ least_of (bad_container names.now.declared.now reference.now)) }
-{
-    let opposite_contains = is_contained_by(names, opposite(alloc, names, reference)?);
-    let kind = kind_of(reference.feature.word);
-    Ok(place_if(
-        breaks_containment(kind, opposite_contains),
-        reference.feature.name.at,
-    ))
+// The rule of the containment of references.
+#[derive(Clone, Copy)]
+struct Containment<'n, 'a> {
+    names: &'n Names<'a>,
 }
 
-#[tactic(auto, using(rf_names::proofs::LeastPlaces::least_steps))]
-fn bad_among(
-    alloc: Global,
-    names: &Names,
-    references: &[ReferenceForm],
-) -> Result<Option<u64>, AllocError>
-    ensures { IfOk result (λ at.
-        at ≡ least_of (flat_map (bad_container names.now.declared.now) references.now)) }
-{
-    let mut least = None;
-    for reference in references {
-        least = lesser(least, bad(alloc, names, reference)?);
+impl<'n, 'a> OffsetRule<ReferenceDeclaration<'a>> for Containment<'n, 'a> {
+    ghost offsets = { λ rule. bad_container rule.names.now.declared.now };
+
+    fn least_in(
+        &self,
+        alloc: Global,
+        reference: &ReferenceDeclaration<'a>,
+    ) -> Result<Option<u64>, AllocError> {
+        let opposite_contains = is_contained_by(
+            self.names,
+            opposite(alloc, self.names, reference)?,
+        );
+        let kind = kind_of(reference.feature.word);
+        Ok(offset_if(
+            breaks_containment(kind, opposite_contains),
+            reference.feature.name.at,
+        ))
     }
-    Ok(least)
 }
 
-/// The least place of a reference whose containment its opposite doesn't meet.
+/// The least offset of a reference whose containment its opposite doesn't meet.
 pub fn bad_container(alloc: Global, names: &Names) -> Result<Option<u64>, AllocError>
-    ensures { IfOk result (λ at. at ≡ least_of (bad_container_places names.now.declared.now)) }
+    ensures { IfOk result (λ at. at ≡ least_of (bad_container_offsets names.now.declared.now)) }
 {
     let declared = names.declared;
-    bad_among(alloc, names, declared.references.as_slice())
+    least_among(
+        alloc,
+        &Containment { names },
+        declared.references.as_slice(),
+    )
 }

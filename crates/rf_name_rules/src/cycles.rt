@@ -1,19 +1,19 @@
 //! Classes that extend themselves.
 
 ghost use Rattle.std.specs.Prelude.{◌≡◌, ◌<◌, Some, IfOk, IsTrue, length};
-ghost use Rattle.rf_names.specs.LeastPlace.{least_of, lesser, place_if};
+ghost use Rattle.rf_names.specs.Offsets.{least_of, lesser, offset_if};
 ghost use Rattle.rf_names.specs.LookUp.{extends_somehow};
-ghost use Rattle.rf_name_rules.specs.Places.{cycle_places, cycles_from};
+ghost use Rattle.rf_name_rules.specs.RuleOffsets.{cycle_offsets, cycles_from};
 
-use rf_names::{ClassForm, Names, lesser, place_if};
+use rf_names::{ClassDeclaration, Names, lesser, offset_if};
 use std::alloc::{AllocError, Global};
 
-/// The least place of a class that extends itself, directly or through others. Where ranks of the
+/// The least offset of a class that extends itself, directly or through others. Where ranks of the
 /// classes show that there is none, nothing is searched; else each class takes a search, but for those
-/// behind the least place so far.
-#[tactic(auto, using(crate::proofs::NumberedPlaces::no_cycle))]
+/// after the least offset so far.
+#[tactic(auto, using(crate::proofs::NumberedOffsets::no_cycle))]
 pub fn class_cycle(alloc: Global, names: &Names) -> Result<Option<u64>, AllocError>
-    ensures { IfOk result (λ at. at ≡ least_of (cycle_places names.now.declared.now)) }
+    ensures { IfOk result (λ at. at ≡ least_of (cycle_offsets names.now.declared.now)) }
 {
     if names.is_clear_of_cycles(alloc)? {
         return Ok(None);
@@ -42,9 +42,9 @@ fn is_no_lesser(at: u64, least: Option<u64>) -> bool
     }
 }
 
-// The lesser of a place and that of a class, where it extends itself. A class whose place isn't the
-// lesser isn't asked.
-#[tactic(auto, using(crate::proofs::NumberedPlaces::no_lesser))]
+// The lesser of an offset and that of a class, where it extends itself. A class whose offset isn't
+// the lesser isn't asked.
+#[tactic(auto, using(crate::proofs::NumberedOffsets::no_lesser))]
 fn lesser_in_class(
     alloc: Global,
     names: &Names,
@@ -53,23 +53,23 @@ fn lesser_in_class(
     least: Option<u64>,
 ) -> Result<Option<u64>, AllocError>
     requires { number < length names.now.declared.now.classes }
-    ensures { IfOk result (λ place.
-        place ≡
+    ensures { IfOk result (λ lesser_one.
+        lesser_one ≡
         lesser least
-        (least_of (place_if (extends_somehow names.now.declared.now number number) at))) }
+        (least_of (offset_if (extends_somehow names.now.declared.now number number) at))) }
 {
     if is_no_lesser(at, least) {
         return Ok(least);
     }
     let cyclic = extends_itself(alloc, names, number)?;
-    Ok(lesser(least, place_if(cyclic, at)))
+    Ok(lesser(least, offset_if(cyclic, at)))
 }
 
-#[tactic(auto, using(crate::proofs::NumberedPlaces::least_of_cycles_more))]
+#[tactic(auto, using(crate::proofs::NumberedOffsets::least_of_cycles_more))]
 fn cycles_among(
     alloc: Global,
     names: &Names,
-    classes: &[ClassForm],
+    classes: &[ClassDeclaration],
 ) -> Result<Option<u64>, AllocError>
     requires { classes.now ≡ names.now.declared.now.classes }
     ensures { IfOk result (λ at. at ≡ least_of (cycles_from names.now.declared.now 0 classes.now)) }

@@ -1,49 +1,40 @@
 //! Assertions of `equals` whose arguments aren't the same object named twice.
 
 ghost use Rattle.std.specs.Prelude.{◌≡◌, IfOk};
-ghost use Rattle.std.specs.List.{flat_map};
-ghost use Rattle.rf_names.specs.LeastPlace.{least_of};
-ghost use Rattle.rf_name_rules.specs.Places.{equals_two, equals_two_places, is_equals, is_same_member, is_same_object, is_twice};
+ghost use Rattle.rf_names.specs.Offsets.{least_of};
+ghost use Rattle.rf_name_rules.specs.RuleOffsets.{equals_two, equals_two_offsets, is_equals, is_same_member, is_same_object, is_twice};
 
-use rf_names::{AssertForm, Names, Sense, lesser, place_if};
+use rf_names::{AssertDeclaration, Names, OffsetRule, Sense, least_among, offset_if};
 use rf_problem::Symbol;
 use rf_syntax::{Arg, Name};
 use std::alloc::{AllocError, Global};
 
-/// The least place of an `equals` of two objects.
+/// The least offset of an `equals` of two objects.
 pub fn equals_two(alloc: Global, names: &Names<'_>) -> Result<Option<u64>, AllocError>
-    ensures { IfOk result (λ at. at ≡ least_of (equals_two_places names.now.declared.now)) }
+    ensures { IfOk result (λ at. at ≡ least_of (equals_two_offsets names.now.declared.now)) }
 {
     let declared = names.declared;
-    equals_among(alloc, names, declared.assertions.as_slice())
+    least_among(alloc, &EqualsTwo { names }, declared.assertions.as_slice())
 }
 
-#[tactic(auto, using(rf_names::proofs::LeastPlaces::least_steps))]
-fn equals_among(
-    alloc: Global,
-    names: &Names<'_>,
-    assertions: &[AssertForm<'_>],
-) -> Result<Option<u64>, AllocError>
-    ensures { IfOk result (λ at. at
-        ≡ least_of (flat_map (equals_two names.now.declared.now) assertions.now)) }
-{
-    let mut least = None;
-    for assertion in assertions {
-        least = lesser(least, equals_in(alloc, names, assertion)?);
+// The rule of the arguments of `equals`.
+#[derive(Clone, Copy)]
+struct EqualsTwo<'n, 'a> {
+    names: &'n Names<'a>,
+}
+
+impl<'n, 'a> OffsetRule<AssertDeclaration<'a>> for EqualsTwo<'n, 'a> {
+    ghost offsets = { λ rule. equals_two rule.names.now.declared.now };
+
+    fn least_in(
+        &self,
+        alloc: Global,
+        assertion: &AssertDeclaration<'a>,
+    ) -> Result<Option<u64>, AllocError> {
+        let sense = self.names.assertion_sense(alloc, &assertion.atom.symbol)?;
+        let broken = is_equals(sense) && !is_twice(assertion.atom.args.as_slice());
+        Ok(offset_if(broken, assertion.atom.symbol.name.at))
     }
-    Ok(least)
-}
-
-fn equals_in(
-    alloc: Global,
-    names: &Names<'_>,
-    assertion: &AssertForm<'_>,
-) -> Result<Option<u64>, AllocError>
-    ensures { IfOk result (λ at. at ≡ least_of (equals_two names.now.declared.now assertion.now)) }
-{
-    let sense = names.assertion_sense(alloc, &assertion.atom.symbol)?;
-    let broken = is_equals(sense) && !is_twice(assertion.atom.args.as_slice());
-    Ok(place_if(broken, assertion.atom.symbol.name.at))
 }
 
 fn is_equals(sense: Sense) -> bool

@@ -1,6 +1,6 @@
 //! The rules that declared names and symbols keep.
 //!
-//! For each rule `specs/Places` says at which byte places of a text it is broken, and one function here
+//! For each rule `specs/RuleOffsets` says at which byte offsets of a text it is broken, and one function here
 //! answers the least of them.
 #![tactic(auto)]
 
@@ -9,7 +9,6 @@ mod arities;
 mod containers;
 mod cycles;
 mod equals;
-mod literals;
 mod opposites;
 mod ranges;
 mod repeats;

@@ -1,11 +1,11 @@
 //! Opposites of references.
 
 ghost use Rattle.std.specs.Prelude.{◌≡◌, ◌&&◌, IfOk, Some};
-ghost use Rattle.rf_names.specs.LeastPlace.{least_of};
+ghost use Rattle.rf_names.specs.Offsets.{least_of};
 ghost use Rattle.rf_names.specs.LookUp.{class_named, opposite_of};
-ghost use Rattle.rf_name_rules.specs.Places.{bad_opposite, bad_opposite_places, bad_opposites_from, is_same_number, leads_back};
+ghost use Rattle.rf_name_rules.specs.RuleOffsets.{bad_opposite, bad_opposite_offsets, bad_opposites_from, is_same_number, leads_back};
 
-use rf_names::{Names, ReferenceForm, lesser, opposite, place_if};
+use rf_names::{Names, ReferenceDeclaration, lesser, offset_if, opposite};
 use std::alloc::{AllocError, Global};
 
 fn is_same_number(there: Option<u32>, number: u64) -> bool
@@ -17,7 +17,7 @@ fn is_same_number(there: Option<u32>, number: u64) -> bool
     }
 }
 
-fn is_target(names: &Names, reference: &ReferenceForm, class: u64) -> bool
+fn is_target(names: &Names, reference: &ReferenceDeclaration, class: u64) -> bool
     ensures { result ≡
         is_same_number (class_named names.now.declared.now reference.now.feature.target.text)
         (Some class) }
@@ -33,8 +33,8 @@ fn is_mirror(
     alloc: Global,
     names: &Names,
     number: u64,
-    reference: &ReferenceForm,
-    back: &ReferenceForm,
+    reference: &ReferenceDeclaration,
+    back: &ReferenceDeclaration,
 ) -> Result<bool, AllocError>
     ensures { IfOk result (λ yes. yes ≡ (
         is_same_number (class_named names.now.declared.now reference.now.feature.target.text)
@@ -55,7 +55,7 @@ fn leads_back(
     alloc: Global,
     names: &Names,
     number: u64,
-    reference: &ReferenceForm,
+    reference: &ReferenceDeclaration,
     opposite: Option<u32>,
 ) -> Result<bool, AllocError>
     ensures { IfOk result (λ back.
@@ -75,7 +75,7 @@ fn bad(
     alloc: Global,
     names: &Names,
     number: u64,
-    reference: &ReferenceForm,
+    reference: &ReferenceDeclaration,
 ) -> Result<Option<u64>, AllocError>
     ensures { IfOk result (λ at.
         at ≡ least_of (
@@ -87,16 +87,16 @@ fn bad(
         None => Ok(None),
         Some(name) => {
             let mirrored = leads_back(alloc, names, number, reference, opposite)?;
-            Ok(place_if(!mirrored, name.at))
+            Ok(offset_if(!mirrored, name.at))
         }
     }
 }
 
-#[tactic(auto, using(crate::proofs::NumberedPlaces::least_of_opposites_more))]
+#[tactic(auto, using(crate::proofs::NumberedOffsets::least_of_opposites_more))]
 fn bad_among(
     alloc: Global,
     names: &Names,
-    references: &[ReferenceForm],
+    references: &[ReferenceDeclaration],
 ) -> Result<Option<u64>, AllocError>
     ensures { IfOk result (λ at.
         at ≡ least_of (bad_opposites_from names.now.declared.now 0 references.now)) }
@@ -108,9 +108,9 @@ fn bad_among(
     Ok(least)
 }
 
-/// The least place of a name behind `opposite` whose reference doesn't lead back.
+/// The least offset of a name after `opposite` whose reference doesn't lead back.
 pub fn bad_opposite(alloc: Global, names: &Names) -> Result<Option<u64>, AllocError>
-    ensures { IfOk result (λ at. at ≡ least_of (bad_opposite_places names.now.declared.now)) }
+    ensures { IfOk result (λ at. at ≡ least_of (bad_opposite_offsets names.now.declared.now)) }
 {
     let declared = names.declared;
     bad_among(alloc, names, declared.references.as_slice())

@@ -2,16 +2,16 @@
 
 ghost use Rattle.std.specs.Prelude.{◌≡◌, map};
 ghost use Rattle.std.specs.List.{flat_map};
-ghost use Rattle.rf_names.specs.LeastPlace.{least_of};
-ghost use Rattle.rf_name_rules.specs.Places.{bad_mult, bad_range, bad_range_or_none, bad_range_places, is_less};
+ghost use Rattle.rf_names.specs.Offsets.{least_of};
+ghost use Rattle.rf_name_rules.specs.RuleOffsets.{bad_mult, bad_range, bad_range_or_none, bad_range_offsets, is_less};
 
-use rf_names::{Declarations, ReferenceForm, lesser, place_if};
+use rf_names::{Declarations, ReferenceDeclaration, lesser, offset_if};
 use rf_syntax::{Bound, Item, MultPlace, Range, Upper};
 
-/// The least place of a range without numbers.
-#[tactic(auto, using(rf_names::proofs::LeastPlaces::least_steps))]
+/// The least offset of a range without numbers.
+#[tactic(auto, using(rf_names::proofs::LeastOffsets::least_steps))]
 pub fn bad_range(declared: &Declarations<'_>) -> Option<u64>
-    ensures { result ≡ least_of (bad_range_places declared.now) }
+    ensures { result ≡ least_of (bad_range_offsets declared.now) }
 {
     let references = bad_mults(declared.references.as_slice());
     let items = bad_items(declared.items.as_slice());
@@ -31,7 +31,7 @@ fn is_less(upper: Upper, lo: u32) -> bool
 fn bad(range: Range) -> Option<u64>
     ensures { result ≡ least_of (bad_range range) }
 {
-    place_if(is_less(range.hi, range.lo), range.at)
+    offset_if(is_less(range.hi, range.lo), range.at)
 }
 
 fn bad_or_none(range: Option<Range>) -> Option<u64>
@@ -52,14 +52,14 @@ fn bad_in_mult(mult: MultPlace) -> Option<u64>
     }
 }
 
-fn bad_in_reference(reference: &ReferenceForm<'_>) -> Option<u64>
+fn bad_in_reference(reference: &ReferenceDeclaration<'_>) -> Option<u64>
     ensures { result ≡ least_of (bad_mult reference.now.feature.mult) }
 {
     bad_in_mult(reference.feature.mult)
 }
 
-#[tactic(auto, using(rf_names::proofs::LeastPlaces::least_steps))]
-fn bad_mults(references: &[ReferenceForm<'_>]) -> Option<u64>
+#[tactic(auto, using(rf_names::proofs::LeastOffsets::least_steps))]
+fn bad_mults(references: &[ReferenceDeclaration<'_>]) -> Option<u64>
     ensures { result ≡ least_of (flat_map (λ r. bad_mult r.feature.mult) references.now) }
 {
     let mut least = None;
@@ -69,7 +69,7 @@ fn bad_mults(references: &[ReferenceForm<'_>]) -> Option<u64>
     least
 }
 
-#[tactic(auto, using(rf_names::proofs::LeastPlaces::least_steps))]
+#[tactic(auto, using(rf_names::proofs::LeastOffsets::least_steps))]
 fn bad_items(items: &[&Item]) -> Option<u64>
     ensures { result ≡ least_of (flat_map (λ i. bad_range_or_none i.range) (map
         (λ i. i.now) items.now)) }
@@ -81,7 +81,7 @@ fn bad_items(items: &[&Item]) -> Option<u64>
     least
 }
 
-#[tactic(auto, using(rf_names::proofs::LeastPlaces::least_steps))]
+#[tactic(auto, using(rf_names::proofs::LeastOffsets::least_steps))]
 fn bad_bounds(bounds: &[&Bound]) -> Option<u64>
     ensures { result ≡ least_of (flat_map (λ b. bad_range b.range) (map (λ b. b.now) bounds.now)) }
 {

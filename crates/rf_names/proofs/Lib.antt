@@ -1,6 +1,7 @@
 pub mod FirstLemmas
 pub mod FoundLemmas
-pub mod LeastPlaces
+pub mod Gathered
+pub mod LeastOffsets
 pub mod ListedLemmas
 pub mod MapLemmas
 pub mod NamedLemmas

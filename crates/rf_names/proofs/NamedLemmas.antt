@@ -47,10 +47,10 @@ position_missing p xs none = elim (cases_lt (position_or_len p xs) (length xs)) 
   | inr past ↦ past
 ]
 
-pub item_place :
+pub item_position :
     (d : Declared) (names : List Name) (text : List ℕ) (found : Option ℕ) (n : ℕ) → names ≡ map (λ i. i.name) d.items → found ≡ position (reads text) names →
     found ≡ Some n → (n < length d.items) × (item_named d text ≡ slice_get d.items n)
-item_place d names text found n are finds is =
+item_position d names text found n are finds is =
     let there : position (reads text) (map (λ i. i.name) d.items) ≡ Some n = sym (finds ∙ ap (position (reads text)) are) ∙ is in
     let place : position (λ i. reads text i.name) d.items ≡ Some n = sym (position-map (reads text) (λ i. i.name) d.items) ∙ there in
     let within = (position-Some (reads text) (map (λ i. i.name) d.items) n no_name there).0 in (

@@ -4,7 +4,7 @@ use Rattle.std.proofs.lemmas.Bool.{cases_Bool}
 use Rattle.std.proofs.lemmas.Iterator.Adapters.{position_from-zero}
 use Rattle.std.proofs.lemmas.Slice.Eq.{bytes_eq-Decides}
 use Rattle.std.proofs.lemmas.List.{length-map, map-append}
-use Rattle.std.specs.BTreeMap.{BTreeMap}
+use Rattle.std.specs.HashMap.{HashMap}
 use Rattle.std.specs.List.{position, position_from}
 use Rattle.std.specs.Map.{update}
 use Rattle.std.specs.Option.{is_some, option_or}
@@ -29,7 +29,7 @@ position_from-push p i (x ∷ xs) y = elim (cases_Bool (p x)) [
       rw fails (rest ∙ ap (λ (n : ℕ). option_or (position_from p (i + 1) xs) (cond (p y) (Some n) None)) same))
 ]
 
--- the first place among these and one more
+-- the first position among these and one more
 pub position-push :
     {T : Type 0} (p : T → Bool) (xs : List T) (y : T) →
     position p (xs ++ y ∷ []) ≡ option_or (position p xs) (cond (p y) (Some (length xs)) None)
@@ -57,7 +57,7 @@ some_kept (Some x) more h = refl
 
 -- a text that has no number yet takes the next
 pub one_more_number :
-    (names : List Name) (name : Name) (old new : BTreeMap (Bor (List ℕ)) ℕ) → AreNumbered names old → is_some (number_in old name.text) ≡ false →
+    {S : Type 0} (names : List Name) (name : Name) (old new : HashMap (Bor (List ℕ)) ℕ S) → AreNumbered names old → is_some (number_in old name.text) ≡ false →
     ((text : List ℕ) → number_in new text ≡ update bytes_eq (number_in old) name.text (Some (length names)) text) → AreNumbered (names ++ name ∷ []) new
 one_more_number names name old new are absent updated text = elim (cases_Bool (reads text name)) [
   | inl read ↦ (let here : name.text ≡ text = text_read text name read in
@@ -71,7 +71,7 @@ one_more_number names name old new are absent updated text = elim (cases_Bool (r
 
 -- one that has a number keeps it
 pub number_kept :
-    (names : List Name) (name : Name) (numbers : BTreeMap (Bor (List ℕ)) ℕ) → AreNumbered names numbers → is_some (number_in numbers name.text) ≡ true →
+    {S : Type 0} (names : List Name) (name : Name) (numbers : HashMap (Bor (List ℕ)) ℕ S) → AreNumbered names numbers → is_some (number_in numbers name.text) ≡ true →
     AreNumbered (names ++ name ∷ []) numbers
 number_kept names name numbers are present text = elim (cases_Bool (reads text name)) [
   | inl read ↦ (let here : name.text ≡ text = text_read text name read in
@@ -85,7 +85,7 @@ map_push f xs more x e = ap (map f) e ∙ map-append f xs (x ∷ [])
 
 -- the same where the names are lent
 pub AreNumbered-new :
-    (names more : List (Bor Name)) (name : Bor Name) (text : List ℕ) (many : ℕ) (old new : BTreeMap (Bor (List ℕ)) ℕ) → AreNumbered (map (λ n. n.now) names) old →
+    {S : Type 0} (names more : List (Bor Name)) (name : Bor Name) (text : List ℕ) (many : ℕ) (old new : HashMap (Bor (List ℕ)) ℕ S) → AreNumbered (map (λ n. n.now) names) old →
     more ≡ names ++ name ∷ [] → text ≡ name.now.text → many ≡ length names → is_some (number_in old text) ≡ false →
     ((query : List ℕ) → number_in new query ≡ update bytes_eq (number_in old) text (Some many) query) → AreNumbered (map (λ n. n.now) more) new
 AreNumbered-new names more name text many old new are pushed read count absent updated =
@@ -96,7 +96,7 @@ AreNumbered-new names more name text many old new are pushed read count absent u
     (λ query. updated query ∙ ap (λ (k : ℕ). update bytes_eq (number_in old) text (Some k) query) len ∙ ap (λ t. update bytes_eq (number_in old) t (Some (length (map lent names))) query) read))
 
 pub AreNumbered-kept :
-    (names more : List (Bor Name)) (name : Bor Name) (text : List ℕ) (numbers : BTreeMap (Bor (List ℕ)) ℕ) → AreNumbered (map (λ n. n.now) names) numbers →
+    {S : Type 0} (names more : List (Bor Name)) (name : Bor Name) (text : List ℕ) (numbers : HashMap (Bor (List ℕ)) ℕ S) → AreNumbered (map (λ n. n.now) names) numbers →
     more ≡ names ++ name ∷ [] → text ≡ name.now.text → is_some (number_in numbers text) ≡ true → AreNumbered (map (λ n. n.now) more) numbers
 AreNumbered-kept names more name text numbers are pushed read present =
     let lent : Bor Name → Name = λ n. n.now in

@@ -46,7 +46,7 @@ listed_passes test (n ∷ ns) q all listed =
       | inr later ↦ listed_passes test ns q parts.1 later
     ]
 
--- the ranks of the places that a list names are less than this rank
+-- the ranks of the vertices that a list names are less than this rank
 pub ranks_below :
     (ranks : List ℕ) (lists : List (List ℕ)) (p rank : ℕ) (list : List ℕ) → get_or lists p [] ≡ list →
     list_all (λ q. nat_lt (get_or ranks q 0) rank) list ≡ true →
@@ -55,7 +55,7 @@ ranks_below ranks lists p rank list at all q edge =
     ltb-true (get_or ranks q 0) rank
     (listed_passes (λ k. nat_lt (get_or ranks k 0) rank) list q all (ap (list_any (λ c. c == q)) (sym at) ∙ edge))
 
--- ranks that fall from each place that has a list fall along each edge
+-- ranks that fall from each vertex that has a list fall along each edge
 pub falls_along :
     (ranks : List ℕ) (lists : List (List ℕ)) (many : ℕ) → length lists ≤ many →
     ((p : ℕ) → p < many → (q : ℕ) → leads lists p q ≡ true → get_or ranks q 0 < get_or ranks p 0) →

@@ -9,7 +9,7 @@ use Rattle.rf_syntax.specs.declared.name.Name.{Name}
 use Rattle.rf_names.specs.Bodies.{is_variable_of, variable_number, variable_numbers, with_variable, with_variables}
 use Rattle.rf_names.specs.LookUp.{is_blank, reads, the_number}
 
--- where some item passes, the first such place is in the list
+-- where some item passes, the first such position is in the list
 pub position_or_len-within : {X : Type 0} (p : X → Bool) (xs : List X) → list_any p xs ≡ true → position_or_len p xs < length xs
 position_or_len-within p [] h = absurd (true≢false (sym h))
 position_or_len-within p (x ∷ xs) h = elim (cases_Bool (p x)) [
@@ -26,7 +26,7 @@ position-there p xs h =
     let within : nat_lt (position_or_len p xs) (length xs) ≡ true = lt-ltb (position_or_len p xs) (length xs) less in
     rw within less
 
--- a place that is there is in the list
+-- a position that is there is in the list
 pub position-some : {X : Type 0} (p : X → Bool) (xs : List X) → is_none (position p xs) ≡ false → the_number (position p xs) < length xs
 position-some p xs h = elim (cases_Bool (nat_lt (position_or_len p xs) (length xs))) [
   | inl within ↦ rw within (ltb-true (position_or_len p xs) (length xs) within)
@@ -49,7 +49,7 @@ pub with_variables-append : (known xs ys : List Name) → with_variables known (
 with_variables-append known [] ys = refl
 with_variables-append known (x ∷ xs) ys = with_variables-append (with_variable known x) xs ys
 
--- a name's number is that of a variable behind it
+-- a name's number is that of a variable after it
 pub variable_number-below : (known : List Name) (name : Name) → variable_number known name < length (with_variable known name)
 variable_number-below known name = elim (cases_Bool (is_variable_of known name)) [
   | inl e ↦ rw e (position-there (reads name.text) known (and_parts (not (is_blank name)) (list_any (reads name.text) known) e).1)

@@ -26,7 +26,7 @@ literal_names (Differ a b) = a ∷ b ∷ []
 abbrev pub clause_names : List BodyLiteral → List Name
 clause_names clause = flat_map literal_names clause
 
--- whether a `!` stands in front; comparisons have none
+-- whether a `!` stands before it; comparisons have none
 abbrev pub is_negated : BodyLiteral → Bool
 is_negated (Call negated symbol closure args) = negated
 is_negated (Same a b) = false
@@ -38,11 +38,11 @@ first_name (Call negated symbol closure args) = symbol.name
 first_name (Same a b) = a
 first_name (Differ a b) = a
 
--- whether a name stands for one of these variables: it is the name of one, and no `_`
+-- whether a name stands for one of these variables: it is the name of one, and isn't `_`
 abbrev pub is_variable_of : List Name → Name → Bool
 is_variable_of known name = not (is_blank name) && list_any (reads name.text) known
 
--- the variables after a name: each `_` is one of its own, and so is a name at its first place
+-- the variables after a name: each `_` is one of its own, and so is a name where it occurs first
 abbrev pub with_variable : List Name → Name → List Name
 with_variable known name = if is_variable_of known name then known else known ++ name ∷ []
 
@@ -60,7 +60,7 @@ clause_variables params clause = with_variables (param_names params) (clause_nam
 abbrev pub names_variable : List ℕ → BodyLiteral → Bool
 names_variable text literal = list_any (reads text) (literal_names literal)
 
--- whether a name is that of a variable that can't be quantified: it is no parameter, each literal that
+-- whether a name is that of a variable that can't be quantified: it isn't a parameter, each literal that
 -- names it is negated, and there are several of them
 abbrev pub is_loose : List Param → List BodyLiteral → Name → Bool
 is_loose params clause name =
@@ -97,7 +97,7 @@ is_called_from d p q = walk_below (λ x y. calls_directly d y x) (λ x. true) (l
 abbrev pub leads_to : Declared → ℕ → ℕ → Bool
 leads_to d q p = (q == p) || is_called_from d p q
 
--- the number of the variable that a name stands for, behind these variables
+-- the number of the variable that a name stands for, after these variables
 abbrev pub variable_number : List Name → Name → ℕ
 variable_number known name =
     if is_variable_of known name then the_number (position (reads name.text) known) else length known

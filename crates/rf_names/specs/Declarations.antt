@@ -27,7 +27,7 @@ use Rattle.rf_problem.specs.declared.reference.RefKind.TheVariants.{Plain, Conta
 use Rattle.rf_syntax.specs.declared.class.FeatureWord.{FeatureWord}
 use Rattle.rf_syntax.specs.declared.class.FeatureWord.TheVariants.{Contains as ContainsWord, Container as ContainerWord, Refers}
 
--- a class, with the names that stand behind `extends` and its references
+-- a class, with the names that stand after `extends` and its references
 pub record ClassDecl : Type 0 where
   pub name : Name
   pub is_abstract : Bool
@@ -77,7 +77,7 @@ truth_of FalseWord = False
 truth_of UnknownWord = Unknown
 truth_of ErrorWord = Both
 
--- what is asserted, and as what: nothing in front asserts true, `!` false, `?` unknown
+-- what is asserted, and as what: nothing before it asserts true, `!` false, `?` unknown
 abbrev pub asserted_atom : AssertionForm → AtomForm
 asserted_atom (Plain atom) = atom
 asserted_atom (Not atom) = atom
@@ -176,7 +176,7 @@ declared_by statements = record {
 abbrev pub declared_in : Ast → Declared
 declared_in ast = declared_by ast.statements
 
--- the kind of a reference, by the word in front of it
+-- the kind of a reference, by the word before it
 abbrev pub kind_of_word : Option FeatureWord → RefKind
 kind_of_word None = Plain
 kind_of_word (Some Refers) = Plain

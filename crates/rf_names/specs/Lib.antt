@@ -1,6 +1,7 @@
 pub mod Bodies
 pub mod Declarations
-pub mod LeastPlace
+pub mod Offsets
+pub mod Gathering
 pub mod LookUp
 pub mod Ranks
 pub mod Tables

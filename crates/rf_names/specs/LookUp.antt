@@ -64,7 +64,7 @@ abbrev pub is_number : ℕ → Option ℕ → Bool
 is_number k None = false
 is_number k (Some n) = n == k
 
--- whether class c names class k behind `extends`
+-- whether class c names class k after `extends`
 abbrev pub extends_directly : Declared → ℕ → ℕ → Bool
 extends_directly d c k = list_any (λ s. is_number k (class_named d s.text)) (class_decl_at d c).supers
 
@@ -144,8 +144,8 @@ named_objects d = first_of_each [] d.mentions
 abbrev pub object_named : Declared → List ℕ → Option ℕ
 object_named d text = position (reads text) (named_objects d)
 
--- the number of the object that the new nodes of class c come from: behind the named ones, and those
--- of the classes in front of it that aren't abstract
+-- the number of the object that the new nodes of class c come from: after the named ones, and those
+-- of the classes before it that aren't abstract
 abbrev pub new_object_of : Declared → ℕ → ℕ
 new_object_of d c = length (named_objects d) + count_by (λ k. not k.is_abstract) (take c d.classes)
 
@@ -161,7 +161,7 @@ parameters_of d (Defined q) = length (predicate_decl_at d q).params
 parameters_of d Exists = 1
 parameters_of d Equals = 2
 
--- whether a symbol may stand in front of a `+`: it has two parameters, and is no class
+-- whether a symbol may stand before a `+`: it has two parameters, and isn't a class
 abbrev pub can_be_closed : Declared → Symbol → Bool
 can_be_closed d (Class c) = false
 can_be_closed d s = parameters_of d s == 2
@@ -182,7 +182,7 @@ the_symbol Nothing = Exists
 the_symbol (One s) = s
 the_symbol Several = Exists
 
--- what the name behind `opposite` stands for: a member of the target
+-- what the name after `opposite` stands for: a member of the target
 abbrev pub opposites_named : Declared → ReferenceDecl → Name → List ℕ
 opposites_named d r name = members_of_some d (class_named d r.feature.target.text) name.text
 

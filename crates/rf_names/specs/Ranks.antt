@@ -1,8 +1,8 @@
--- Numbered places that can be ranked along the edges between them.
+-- Numbered vertices that can be ranked along the edges between them.
 use Rattle.std.specs.Prelude.{◌≡◌, ℕ, ◌<◌, true, List}
 use Rattle.rf_closure.specs.Along.{leads}
 
--- each place's rank is greater than those of the places to which it leads
+-- each vertex's rank is greater than those of the vertices to which it leads
 abbrev pub FallsAlong : (ℕ → ℕ) → List (List ℕ) → Type 0
 FallsAlong rank successors = (p q : ℕ) → leads successors p q ≡ true → rank q < rank p
 

@@ -1,6 +1,8 @@
--- Tables in which names and their numbers are found without a scan.
+-- For private functions and fields: tables in which names and their numbers are found without a scan.
 use Rattle.std.specs.Prelude.{ℕ, List, Option, ◌≡◌, position, [], None, Some, option_to_list, not, take, count_by, ◌<◌, length, slice_index_or, Bool, false, slice_get}
 use Rattle.std.specs.BTreeMap.{BTreeMap, get_by}
+use Rattle.std.specs.HashMap.{HashMap, get_by as hash_get_by}
+use Rattle.std.specs.Str.{bytes_eq}
 use Rattle.std.specs.Cmp.Lexicographic.{slice_cmp}
 use Rattle.std.specs.Ordering.{nat_cmp}
 use denote.Ref.{Bor}
@@ -13,12 +15,12 @@ use Rattle.rf_names.specs.Declarations.{ClassDecl}
 use Rattle.rf_names.specs.declared.sense.Sense.{Sense}
 use Rattle.rf_names.specs.declared.sense.Sense.TheVariants.{Nothing, One, Several}
 
--- the number that is kept under a text
-abbrev pub number_in : BTreeMap (Bor (List ℕ)) ℕ → List ℕ → Option ℕ
-number_in numbers text = get_by (λ key. slice_cmp nat_cmp text key.now) numbers
+-- the number that is stored under a text
+abbrev pub number_in : {S : Type 0} → HashMap (Bor (List ℕ)) ℕ S → List ℕ → Option ℕ
+number_in numbers text = hash_get_by (λ key. bytes_eq text key.now) numbers
 
--- kept under each text is the number of the first name that reads so
-abbrev pub AreNumbered : List Name → BTreeMap (Bor (List ℕ)) ℕ → Type 0
+-- stored under each text is the number of the first name that reads so
+abbrev pub AreNumbered : {S : Type 0} → List Name → HashMap (Bor (List ℕ)) ℕ S → Type 0
 AreNumbered names numbers = (text : List ℕ) → number_in numbers text ≡ position (reads text) names
 
 -- the items of a list that may be missing
@@ -26,11 +28,11 @@ abbrev pub items_or_nothing : Option (Vec ℕ Global) → List ℕ
 items_or_nothing None = []
 items_or_nothing (Some list) = list.items
 
--- the numbers that are kept under a text
+-- the numbers that are stored under a text
 abbrev pub numbers_in : BTreeMap (Bor (List ℕ)) (Vec ℕ Global) → List ℕ → List ℕ
 numbers_in lists text = items_or_nothing (get_by (λ key. slice_cmp nat_cmp text key.now) lists)
 
--- kept under each text are the numbers of all names that read so
+-- stored under each text are the numbers of all names that read so
 abbrev pub AreListed : List Name → BTreeMap (Bor (List ℕ)) (Vec ℕ Global) → Type 0
 AreListed names lists = (text : List ℕ) → numbers_in lists text ≡ numbers_where 0 (reads text) names
 
@@ -42,7 +44,7 @@ numbers_among names found = flat_map (λ s. option_to_list (position (reads s.te
 abbrev pub concrete_before : List ClassDecl → ℕ → ℕ
 concrete_before classes c = count_by (λ k. not k.is_abstract) (take c classes)
 
--- the counts are those in front of each class
+-- the counts are those before each class
 pub record AreCounts (classes : List ClassDecl) (many : ℕ) (counts : List ℕ) : Type 0 where
   pub count : length counts ≡ many
   pub each : (c : ℕ) → c < many → slice_index_or counts c 0 ≡ concrete_before classes c

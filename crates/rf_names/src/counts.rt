@@ -1,13 +1,13 @@
-//! How many classes in front of each one aren't abstract.
+//! How many classes before each one aren't abstract.
 
 ghost use Rattle.std.specs.Prelude.{length, IfOk};
 ghost use Rattle.rf_names.specs.Tables.{AreCounts};
 
-use crate::forms::ClassForm;
+use crate::parts::ClassDeclaration;
 use std::alloc::{AllocError, Global};
 
-/// How many classes in front of each one aren't abstract.
-pub fn concrete_before(alloc: Global, classes: &[ClassForm]) -> Result<Vec<u64>, AllocError>
+/// How many classes before each one aren't abstract.
+pub fn concrete_before(alloc: Global, classes: &[ClassDeclaration]) -> Result<Vec<u64>, AllocError>
     ensures { IfOk result (λ counts. AreCounts classes.now (length classes.now) counts.items) }
 {
     let mut counts = Vec::new(alloc);

@@ -1,14 +1,17 @@
 //! What a tree declares and states, in lists.
 
-ghost use Rattle.std.specs.Prelude.{◌≡◌, IfOk};
+ghost use Rattle.std.specs.Prelude.{◌≡◌, [], IfOk, OnOk};
 ghost use Rattle.rf_names.specs.Declarations.{declared_in};
+ghost use Rattle.rf_names.specs.Gathering.{gathered_by, with_statement};
 
-use crate::forms::{AssertForm, ClassForm, PredicateForm, ReferenceForm};
 use crate::gather::{
-    assertions_of, bounds_of, classes_of, items_of, mentions_of, names_of, predicates_of,
+    push_assertion, push_bounds, push_class, push_items, push_mentions, push_names, push_predicate,
     references_of,
 };
-use rf_syntax::{Ast, Bound, Item, Name};
+use crate::parts::{
+    AssertDeclaration, ClassDeclaration, PredicateDeclaration, ReferenceDeclaration,
+};
+use rf_syntax::{Ast, Bound, Item, Name, Statement};
 use std::alloc::{AllocError, Global};
 use std::marker::Model;
 
@@ -17,13 +20,13 @@ use std::marker::Model;
 pub struct Declarations<'a> {
     /// The names declared in the space of classes, predicates and objects.
     pub names: Vec<&'a Name>,
-    pub classes: Vec<ClassForm<'a>>,
-    pub references: Vec<ReferenceForm<'a>>,
-    pub predicates: Vec<PredicateForm<'a>>,
+    pub classes: Vec<ClassDeclaration<'a>>,
+    pub references: Vec<ReferenceDeclaration<'a>>,
+    pub predicates: Vec<PredicateDeclaration<'a>>,
     /// The items of `multi`.
     pub items: Vec<&'a Item>,
     pub bounds: Vec<&'a Bound>,
-    pub assertions: Vec<AssertForm<'a>>,
+    pub assertions: Vec<AssertDeclaration<'a>>,
     /// The names at which the text speaks of named objects.
     pub mentions: Vec<&'a Name>,
 }
@@ -47,22 +50,52 @@ impl<'a> Model for Declarations<'a> {
 }
 
 impl<'a> Declarations<'a> {
+    fn new(alloc: Global) -> Declarations<'a>
+        ensures { result ≡ gathered_by [] }
+    {
+        Declarations {
+            names: Vec::new(alloc),
+            classes: Vec::new(alloc),
+            references: Vec::new(alloc),
+            predicates: Vec::new(alloc),
+            items: Vec::new(alloc),
+            bounds: Vec::new(alloc),
+            assertions: Vec::new(alloc),
+            mentions: Vec::new(alloc),
+        }
+    }
+
+    // Appends what a statement declares and states, but for the references.
+    fn add(&mut self, alloc: Global, statement: &'a Statement) -> Result<(), AllocError>
+        ensures { OnOk result (self.new ≡ with_statement self.old statement.now) }
+    {
+        push_names(&mut self.names, statement)?;
+        push_class(alloc, &mut self.classes, statement)?;
+        push_predicate(alloc, &mut self.predicates, statement)?;
+        push_items(&mut self.items, statement)?;
+        push_bounds(&mut self.bounds, statement)?;
+        push_assertion(&mut self.assertions, statement)?;
+        push_mentions(&mut self.mentions, statement)
+    }
+
+    // What the statements declare and state, but for the references.
+    #[tactic(auto, using(crate::proofs::Gathered::gathered_more))]
+    fn gathered(alloc: Global, statements: &'a [Statement]) -> Result<Declarations<'a>, AllocError>
+        ensures { IfOk result (λ d. d ≡ gathered_by statements.now) }
+    {
+        let mut declarations = Declarations::new(alloc);
+        for statement in statements {
+            declarations.add(alloc, statement)?;
+        }
+        Ok(declarations)
+    }
+
     /// What the tree declares and states.
     pub fn of(alloc: Global, ast: &'a Ast) -> Result<Declarations<'a>, AllocError>
         ensures { IfOk result (λ d. d ≡ declared_in ast.now) }
     {
-        let statements = ast.statements.as_slice();
-        let classes = classes_of(alloc, statements)?;
-        let references = references_of(alloc, classes.as_slice())?;
-        Ok(Declarations {
-            names: names_of(alloc, statements)?,
-            classes,
-            references,
-            predicates: predicates_of(alloc, statements)?,
-            items: items_of(alloc, statements)?,
-            bounds: bounds_of(alloc, statements)?,
-            assertions: assertions_of(alloc, statements)?,
-            mentions: mentions_of(alloc, statements)?,
-        })
+        let mut declarations = Declarations::gathered(alloc, ast.statements.as_slice())?;
+        declarations.references = references_of(alloc, declarations.classes.as_slice())?;
+        Ok(declarations)
     }
 }

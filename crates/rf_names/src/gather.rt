@@ -1,10 +1,13 @@
-//! The lists of what statements declare and state, each in the order of the text.
+//! What one statement declares and states, and the references of classes.
 
 ghost use Rattle.std.specs.Prelude.{◌≡◌, ◌∷◌, ◌++◌, [], IfOk, OnOk, map};
 ghost use Rattle.std.specs.List.{flat_map};
 ghost use Rattle.rf_names.specs.Declarations.{asserted_atom, asserted_truth, assertions_in, bounds_in, classes_in, features_or_none, is_error_word, items_in, items_of, items_or_none, mentions_in, names_in, object_alone, object_in, predicates_in, references_of, truth_of};
 
-use crate::forms::{AssertForm, ClassForm, ClauseForm, PredicateForm, ReferenceForm};
+use crate::parts::{
+    AssertDeclaration, ClassDeclaration, ClauseDeclaration, PredicateDeclaration,
+    ReferenceDeclaration,
+};
 use rf_syntax::{
     Arg, AssertionForm, AtomForm, BodyLiteral, Bound, Feature, Item, Name, NonEmpty, PredicateWord,
     Statement, ValueWord,
@@ -55,7 +58,7 @@ fn push_names_of_items<'a>(
     push_item_names(out, list.rest.as_slice())
 }
 
-// The names behind `extends`, which may be left out.
+// The names after `extends`, which may be left out.
 fn supers_of<'a>(
     alloc: Global,
     supers: &'a Option<NonEmpty<Name>>,
@@ -81,17 +84,17 @@ fn features_of(body: &Option<Items<Feature>>) -> &[Feature]
 fn clause_of<'a>(
     alloc: Global,
     list: &'a NonEmpty<BodyLiteral>,
-) -> Result<ClauseForm<'a>, AllocError>
+) -> Result<ClauseDeclaration<'a>, AllocError>
     ensures { IfOk result (λ c. c ≡ items_of list.now) }
 {
     let mut literals = Vec::new(alloc);
     push_list(&mut literals, list)?;
-    Ok(ClauseForm { literals })
+    Ok(ClauseDeclaration { literals })
 }
 
 fn push_clauses<'a>(
     alloc: Global,
-    out: &mut Vec<ClauseForm<'a>>,
+    out: &mut Vec<ClauseDeclaration<'a>>,
     clauses: &'a [NonEmpty<BodyLiteral>],
 ) -> Result<(), AllocError>
     ensures { OnOk result (out.new.items ≡ out.old.items ++ map items_of clauses.now) }
@@ -105,7 +108,7 @@ fn push_clauses<'a>(
 fn clauses_of<'a>(
     alloc: Global,
     clauses: &'a NonEmpty<NonEmpty<BodyLiteral>>,
-) -> Result<Vec<ClauseForm<'a>>, AllocError>
+) -> Result<Vec<ClauseDeclaration<'a>>, AllocError>
     ensures { IfOk result (λ v. v.items ≡ map items_of (items_of clauses.now)) }
 {
     let mut forms = Vec::new(alloc);
@@ -180,7 +183,8 @@ fn push_objects<'a>(out: &mut Vec<&'a Name>, args: &'a [Arg]) -> Result<(), Allo
 
 // What one statement adds to each list.
 
-fn push_names<'a>(out: &mut Vec<&'a Name>, statement: &'a Statement) -> Result<(), AllocError>
+/// Appends the names that it declares in the space of classes, predicates and objects.
+pub fn push_names<'a>(out: &mut Vec<&'a Name>, statement: &'a Statement) -> Result<(), AllocError>
     ensures { OnOk result (map (λ n. n.now) out.new.items ≡ map (λ n. n.now) out.old.items
         ++ names_in statement.now) }
 {
@@ -195,9 +199,10 @@ fn push_names<'a>(out: &mut Vec<&'a Name>, statement: &'a Statement) -> Result<(
     Ok(())
 }
 
-fn push_class<'a>(
+/// Appends the class that it declares.
+pub fn push_class<'a>(
     alloc: Global,
-    out: &mut Vec<ClassForm<'a>>,
+    out: &mut Vec<ClassDeclaration<'a>>,
     statement: &'a Statement,
 ) -> Result<(), AllocError>
     ensures { OnOk result (out.new.items ≡ out.old.items ++ classes_in statement.now) }
@@ -209,7 +214,7 @@ fn push_class<'a>(
         body,
     } = statement
     {
-        out.push(ClassForm {
+        out.push(ClassDeclaration {
             name,
             is_abstract: *is_abstract,
             supers: supers_of(alloc, supers)?,
@@ -219,9 +224,10 @@ fn push_class<'a>(
     Ok(())
 }
 
-fn push_predicate<'a>(
+/// Appends the predicate that it declares.
+pub fn push_predicate<'a>(
     alloc: Global,
-    out: &mut Vec<PredicateForm<'a>>,
+    out: &mut Vec<PredicateDeclaration<'a>>,
     statement: &'a Statement,
 ) -> Result<(), AllocError>
     ensures { OnOk result (out.new.items ≡ out.old.items ++ predicates_in statement.now) }
@@ -233,7 +239,7 @@ fn push_predicate<'a>(
         clauses,
     } = statement
     {
-        out.push(PredicateForm {
+        out.push(PredicateDeclaration {
             is_error: is_error(*start),
             name,
             params: params.as_slice(),
@@ -243,7 +249,8 @@ fn push_predicate<'a>(
     Ok(())
 }
 
-fn push_items<'a>(out: &mut Vec<&'a Item>, statement: &'a Statement) -> Result<(), AllocError>
+/// Appends the items of its `multi`.
+pub fn push_items<'a>(out: &mut Vec<&'a Item>, statement: &'a Statement) -> Result<(), AllocError>
     ensures { OnOk result (map (λ i. i.now) out.new.items ≡ map (λ i. i.now) out.old.items
         ++ items_in statement.now) }
 {
@@ -253,7 +260,8 @@ fn push_items<'a>(out: &mut Vec<&'a Item>, statement: &'a Statement) -> Result<(
     Ok(())
 }
 
-fn push_bounds<'a>(out: &mut Vec<&'a Bound>, statement: &'a Statement) -> Result<(), AllocError>
+/// Appends the bounds of its `scope`.
+pub fn push_bounds<'a>(out: &mut Vec<&'a Bound>, statement: &'a Statement) -> Result<(), AllocError>
     ensures { OnOk result (map (λ b. b.now) out.new.items ≡ map (λ b. b.now) out.old.items
         ++ bounds_in statement.now) }
 {
@@ -263,8 +271,9 @@ fn push_bounds<'a>(out: &mut Vec<&'a Bound>, statement: &'a Statement) -> Result
     Ok(())
 }
 
-fn push_assertion<'a>(
-    out: &mut Vec<AssertForm<'a>>,
+/// Appends the assertion that it states.
+pub fn push_assertion<'a>(
+    out: &mut Vec<AssertDeclaration<'a>>,
     statement: &'a Statement,
 ) -> Result<(), AllocError>
     ensures { OnOk result (out.new.items ≡ out.old.items ++ assertions_in statement.now) }
@@ -274,7 +283,7 @@ fn push_assertion<'a>(
         assertion,
     } = statement
     {
-        out.push(AssertForm {
+        out.push(AssertDeclaration {
             is_default: *is_default,
             atom: atom_of(assertion),
             value: asserted(assertion),
@@ -283,7 +292,11 @@ fn push_assertion<'a>(
     Ok(())
 }
 
-fn push_mentions<'a>(out: &mut Vec<&'a Name>, statement: &'a Statement) -> Result<(), AllocError>
+/// Appends the names at which it speaks of named objects.
+pub fn push_mentions<'a>(
+    out: &mut Vec<&'a Name>,
+    statement: &'a Statement,
+) -> Result<(), AllocError>
     ensures { OnOk result (map (λ n. n.now) out.new.items ≡ map (λ n. n.now) out.old.items
         ++ mentions_in statement.now) }
 {
@@ -300,103 +313,11 @@ fn push_mentions<'a>(out: &mut Vec<&'a Name>, statement: &'a Statement) -> Resul
     Ok(())
 }
 
-// The lists.
-
-/// The names declared in the space of classes, predicates and objects.
-pub fn names_of<'a>(alloc: Global, statements: &'a [Statement]) -> Result<Vec<&'a Name>, AllocError>
-    ensures { IfOk result (λ v. map (λ n. n.now) v.items ≡ flat_map names_in statements.now) }
-{
-    let mut names = Vec::new(alloc);
-    for statement in statements {
-        push_names(&mut names, statement)?;
-    }
-    Ok(names)
-}
-
-/// The classes.
-pub fn classes_of<'a>(
-    alloc: Global,
-    statements: &'a [Statement],
-) -> Result<Vec<ClassForm<'a>>, AllocError>
-    ensures { IfOk result (λ v. v.items ≡ flat_map classes_in statements.now) }
-{
-    let mut classes = Vec::new(alloc);
-    for statement in statements {
-        push_class(alloc, &mut classes, statement)?;
-    }
-    Ok(classes)
-}
-
-/// The predicates.
-pub fn predicates_of<'a>(
-    alloc: Global,
-    statements: &'a [Statement],
-) -> Result<Vec<PredicateForm<'a>>, AllocError>
-    ensures { IfOk result (λ v. v.items ≡ flat_map predicates_in statements.now) }
-{
-    let mut predicates = Vec::new(alloc);
-    for statement in statements {
-        push_predicate(alloc, &mut predicates, statement)?;
-    }
-    Ok(predicates)
-}
-
-/// The items of `multi`.
-pub fn items_of<'a>(alloc: Global, statements: &'a [Statement]) -> Result<Vec<&'a Item>, AllocError>
-    ensures { IfOk result (λ v. map (λ i. i.now) v.items ≡ flat_map items_in statements.now) }
-{
-    let mut items = Vec::new(alloc);
-    for statement in statements {
-        push_items(&mut items, statement)?;
-    }
-    Ok(items)
-}
-
-/// The bounds of `scope`.
-pub fn bounds_of<'a>(
-    alloc: Global,
-    statements: &'a [Statement],
-) -> Result<Vec<&'a Bound>, AllocError>
-    ensures { IfOk result (λ v. map (λ b. b.now) v.items ≡ flat_map bounds_in statements.now) }
-{
-    let mut bounds = Vec::new(alloc);
-    for statement in statements {
-        push_bounds(&mut bounds, statement)?;
-    }
-    Ok(bounds)
-}
-
-/// The assertions.
-pub fn assertions_of<'a>(
-    alloc: Global,
-    statements: &'a [Statement],
-) -> Result<Vec<AssertForm<'a>>, AllocError>
-    ensures { IfOk result (λ v. v.items ≡ flat_map assertions_in statements.now) }
-{
-    let mut assertions = Vec::new(alloc);
-    for statement in statements {
-        push_assertion(&mut assertions, statement)?;
-    }
-    Ok(assertions)
-}
-
-/// The names at which the text speaks of named objects.
-pub fn mentions_of<'a>(
-    alloc: Global,
-    statements: &'a [Statement],
-) -> Result<Vec<&'a Name>, AllocError>
-    ensures { IfOk result (λ v. map (λ n. n.now) v.items ≡ flat_map mentions_in statements.now) }
-{
-    let mut mentions = Vec::new(alloc);
-    for statement in statements {
-        push_mentions(&mut mentions, statement)?;
-    }
-    Ok(mentions)
-}
+// References.
 
 // The references of the class of this number.
 fn push_references<'a>(
-    out: &mut Vec<ReferenceForm<'a>>,
+    out: &mut Vec<ReferenceDeclaration<'a>>,
     source: u64,
     features: &'a [Feature],
 ) -> Result<(), AllocError>
@@ -404,15 +325,15 @@ fn push_references<'a>(
         ++ map (λ f. record { source = source; feature = f }) features.now) }
 {
     for feature in features {
-        out.push(ReferenceForm { source, feature })?;
+        out.push(ReferenceDeclaration { source, feature })?;
     }
     Ok(())
 }
 
 fn push_class_references<'a>(
-    out: &mut Vec<ReferenceForm<'a>>,
+    out: &mut Vec<ReferenceDeclaration<'a>>,
     source: u64,
-    class: &ClassForm<'a>,
+    class: &ClassDeclaration<'a>,
 ) -> Result<(), AllocError>
     ensures { OnOk result (out.new.items ≡ out.old.items
         ++ map (λ f. record { source = source; feature = f }) class.now.features) }
@@ -423,8 +344,8 @@ fn push_class_references<'a>(
 /// The references of the classes.
 pub fn references_of<'a>(
     alloc: Global,
-    classes: &[ClassForm<'a>],
-) -> Result<Vec<ReferenceForm<'a>>, AllocError>
+    classes: &[ClassDeclaration<'a>],
+) -> Result<Vec<ReferenceDeclaration<'a>>, AllocError>
     ensures { IfOk result (λ v. v.items ≡ references_of 0 classes.now) }
 {
     let mut references = Vec::new(alloc);

@@ -6,7 +6,7 @@ ghost use Rattle.rf_names.specs.Declarations.{kind_of_word};
 use rf_problem::RefKind;
 use rf_syntax::FeatureWord;
 
-/// The kind of a reference, by the word in front of it.
+/// The kind of a reference, by the word before it.
 pub fn kind_of(word: Option<FeatureWord>) -> RefKind
     ensures { result ≡ kind_of_word word }
 {

@@ -7,25 +7,25 @@
 //! 2. What names stand for. `Names` keeps tables of these lists, in which the class, the predicate,
 //!    the object or the references of a name are found without a scan. (`specs/LookUp`; variables of
 //!    clauses and calls: `specs/Bodies`)
-//! 3. What has no cycle. `has_ranks` shows by ranks of places that no walk leads back to its start,
+//! 3. What has no cycle. `has_ranks` shows by ranks of vertices that no walk leads back to its start,
 //!    in time linear in the edges. (`specs/Ranks`)
 //!
-//! The rules that names keep are asked in the crates above, each of the places where it is broken and
-//! the least of them (`specs/LeastPlace`, `lesser` and `place_if`).
+//! The rules that names keep are asked in the crates above, each of byte offsets where it is broken and
+//! the least of them (`specs/Offsets`, `lesser` and `offset_if`).
 #![tactic(auto)]
 
 mod bodies;
 mod counts;
 mod declarations;
-mod forms;
 mod gather;
 mod kind;
-mod least;
 mod listing;
 mod members;
 mod names;
 mod numbering;
+mod offsets;
 mod opposites;
+mod parts;
 mod ranks;
 mod sense;
 mod senses;
@@ -33,11 +33,17 @@ mod supers;
 
 pub use bodies::{is_blank, names_of_literals, names_of_params, reads};
 pub use declarations::Declarations;
-pub use forms::{AssertForm, ClassForm, ClauseForm, PredicateForm, ReferenceForm};
 pub use kind::kind_of;
-pub use least::{lesser, place_if};
 pub use names::Names;
 pub use numbering::Numbering;
+pub use offsets::{
+    ClauseRule, OffsetRule, least_among, least_among_lent, least_in_clauses, least_in_literals,
+    lesser, offset_if,
+};
 pub use opposites::{opposite, opposites_named};
+pub use parts::{
+    AssertDeclaration, ClassDeclaration, ClauseDeclaration, PredicateDeclaration,
+    ReferenceDeclaration,
+};
 pub use ranks::has_ranks;
 pub use sense::Sense;

@@ -33,7 +33,7 @@ pub struct Names<'a> {
     references: BTreeMap<&'a str, Vec<u32>>,
     // For each class the numbers of those that it extends directly.
     supers: Vec<Vec<u64>>,
-    // For each class how many classes in front of it aren't abstract.
+    // For each class how many classes before it aren't abstract.
     concrete_before: Vec<u64>,
     ghost of_classes: { map (λ n. n.now) classes.names.items
         ≡ map (λ c. c.name) declared.now.classes },
@@ -109,7 +109,7 @@ fn are_few(declared: &Declarations) -> bool
 
 impl<'a> Names<'a> {
     /// The tables of what is declared, each made in one pass. More than 2^32 - 1 classes, predicates
-    /// or references are refused for want of memory.
+    /// or references are refused as if memory ran out.
     pub fn of(alloc: Global, declared: &'a Declarations<'a>) -> Result<Names<'a>, AllocError>
         ensures { IfOk result (λ names. names.declared.now ≡ declared.now) }
     {

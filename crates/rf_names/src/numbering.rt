@@ -4,25 +4,56 @@ ghost use Rattle.std.specs.Prelude.{◌≡◌, [], ◌∷◌, ◌++◌, map, pos
 ghost use Rattle.rf_names.specs.LookUp.{first_of_each, reads};
 ghost use Rattle.rf_names.specs.Tables.{AreNumbered};
 
+use indexmap::IndexMap;
 use rf_syntax::Name;
 use std::alloc::{AllocError, Global};
-use std::collections::BTreeMap;
+use std::hash::{BuildHasher, DefaultHasher, Hasher};
+
+/// Starts each hasher with a digest of names. A text that puts its names into one slot of a table would
+/// have to contain its own digest.
+#[derive(Clone, Copy)]
+pub struct DigestState {
+    start: DefaultHasher,
+}
+
+impl DigestState {
+    fn of(names: &[&Name]) -> DigestState {
+        let mut digest = DefaultHasher::new();
+        for name in names {
+            digest.write(name.text.as_str().as_bytes());
+            digest.write_u8(0xff);
+        }
+        let mut start = DefaultHasher::new();
+        start.write_u64(digest.finish());
+        DigestState { start }
+    }
+}
+
+impl BuildHasher for DigestState {
+    type Hasher = DefaultHasher;
+
+    ghost build_hasher = { λ state. state.start };
+
+    fn build_hasher(&self) -> DefaultHasher {
+        self.start
+    }
+}
 
 /// Names, and for each text the number of the first that reads so.
 #[derive(Drop)]
 pub struct Numbering<'a> {
     pub names: Vec<&'a Name>,
-    numbers: BTreeMap<&'a str, u64>,
+    numbers: IndexMap<&'a str, u64, DigestState>,
     ghost exact: { AreNumbered (map (λ n. n.now) names.items) numbers },
 }
 
 impl<'a> Numbering<'a> {
-    fn new(alloc: Global) -> Numbering<'a>
+    fn new(alloc: Global, state: DigestState) -> Numbering<'a>
         ensures { result.names.items ≡ [] }
     {
         Numbering {
             names: Vec::new(alloc),
-            numbers: BTreeMap::new(alloc),
+            numbers: IndexMap::with_hasher(alloc, state),
         }
     }
 
@@ -48,7 +79,7 @@ impl<'a> Numbering<'a> {
         ensures { IfOk result (λ numbering. map (λ n. n.now) numbering.names.items
             ≡ map (λ n. n.now) names.now) }
     {
-        let mut numbering = Numbering::new(alloc);
+        let mut numbering = Numbering::new(alloc, DigestState::of(names));
         for name in names {
             numbering = numbering.with(*name)?;
         }
@@ -60,7 +91,7 @@ impl<'a> Numbering<'a> {
         ensures { IfOk result (λ numbering. map (λ n. n.now) numbering.names.items
             ≡ first_of_each [] (map (λ n. n.now) names.now)) }
     {
-        let mut numbering = Numbering::new(alloc);
+        let mut numbering = Numbering::new(alloc, DigestState::of(names));
         for name in names {
             if numbering.find(name.text.as_str()).is_none() {
                 numbering = numbering.with(*name)?;

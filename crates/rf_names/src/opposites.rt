@@ -1,20 +1,20 @@
 //! Opposites of references.
 
 ghost use Rattle.std.specs.Prelude.{◌≡◌, ◌&&◌, IfOk, Some};
-ghost use Rattle.rf_names.specs.LeastPlace.{least_of};
+ghost use Rattle.rf_names.specs.Offsets.{least_of};
 ghost use Rattle.rf_names.specs.LookUp.{class_named, opposite_of, opposites_named, the_first};
 
-use crate::forms::ReferenceForm;
 use crate::names::Names;
+use crate::parts::ReferenceDeclaration;
 use rf_syntax::Name;
 use std::alloc::{AllocError, Global};
 
-/// What the name behind `opposite` stands for: members of the target.
+/// What the name after `opposite` stands for: members of the target.
 #[tactic(auto, using(crate::proofs::FoundLemmas::position_fits))]
 pub fn opposites_named(
     alloc: Global,
     names: &Names,
-    reference: &ReferenceForm,
+    reference: &ReferenceDeclaration,
     name: &Name,
 ) -> Result<Vec<u32>, AllocError>
     ensures { IfOk result (λ members.
@@ -35,7 +35,7 @@ fn the_first(numbers: &[u32]) -> Option<u32>
 pub fn opposite(
     alloc: Global,
     names: &Names,
-    reference: &ReferenceForm,
+    reference: &ReferenceDeclaration,
 ) -> Result<Option<u32>, AllocError>
     ensures { IfOk result (λ at.
         at ≡ opposite_of names.now.declared.now reference.now reference.now.feature.opposite) }

@@ -3,8 +3,8 @@
 ghost use Rattle.std.specs.Prelude.{◌≡◌, map, IfOk};
 ghost use Rattle.rf_names.specs.Tables.{numbers_among};
 
-use crate::forms::ClassForm;
 use crate::numbering::Numbering;
+use crate::parts::ClassDeclaration;
 use rf_syntax::Name;
 use std::alloc::{AllocError, Global};
 
@@ -22,12 +22,12 @@ fn numbers_of(alloc: Global, classes: &Numbering, names: &[&Name]) -> Result<Vec
     Ok(numbers)
 }
 
-/// For each class the numbers of those that it names behind `extends`; a name that is none of a class
+/// For each class the numbers of those that it names after `extends`; a name that isn't one of a class
 /// is left out.
 pub fn supers_of(
     alloc: Global,
     classes: &Numbering,
-    forms: &[ClassForm],
+    forms: &[ClassDeclaration],
 ) -> Result<Vec<Vec<u64>>, AllocError>
     ensures { IfOk result (λ supers. map (λ list. list.items) supers.items
         ≡ map (λ c. numbers_among (map (λ n. n.now) classes.now.names.items) c.supers) forms.now) }

@@ -1,4 +1,4 @@
--- What is read of assertions.
+-- What is parsed of assertions.
 use Rattle.std.proofs.Common.{◌≡◌, ◌⊎◌, Bool, List, [], ◌∷◌, ◌++◌, Option, None, Some, inl, inr, length, refl, sym, ◌∙◌, append_assoc}
 use Rattle.rf_lexer.specs.declared.mark.Mark.TheVariants.{Star as StarMark, Bang, Question, RightParen}
 use Rattle.rf_lexer.specs.declared.keyword.Keyword.TheVariants.{Default}
@@ -16,15 +16,15 @@ use Rattle.rf_syntax.specs.declared.statement.Statement.{Statement}
 use Rattle.rf_syntax.specs.declared.statement.Statement.TheVariants.{Class, Predicate, Declare, Multi, Scope, Assert}
 use Rattle.rf_syntax.specs.Assertion.{arg_pieces, assertion_pieces, atom_pieces, value_pieces}
 use Rattle.rf_syntax.specs.Name.{symbol_pieces}
-use Rattle.rf_syntax.specs.Parts.{flagged, optional_behind}
+use Rattle.rf_syntax.specs.Parts.{flagged, optional_after}
 use Rattle.rf_syntax.specs.Piece.{kinds_of, terminal}
 use Rattle.rf_syntax.specs.Statement.{statement_pieces}
 use Rattle.rf_syntax.specs.Terminals.{bang, colon, colon_colon, default_word, dot, error_word, false_word, question, right_paren, star, true_word, unknown_word}
 use Rattle.rf_parser.specs.Fit.{token_kinds}
-use Rattle.rf_parser.specs.Parts.{BeginsNoWord, listed_in_parens, single}
-use Rattle.rf_parser.specs.Reading.{Halts, IsStuck, NeverBegins, either, first_kind, never}
+use Rattle.rf_parser.specs.Private.Parts.{BeginsNoWord, listed_in_parens, single}
+use Rattle.rf_parser.specs.Private.Parsing.{Halts, IsStuck, NeverBegins, either, first_kind, never}
 use Rattle.rf_parser.proofs.Beginnings.{begun}
-use Rattle.rf_parser.proofs.Fronts.{append_nil, halts_never}
+use Rattle.rf_parser.proofs.Prefixes.{append_nil, halts_never}
 use Rattle.rf_parser.proofs.NameParts.{a_name, name_no_mark, name_no_word}
 use Rattle.rf_parser.proofs.Wholes.{Apart, Begins, IsCase, pair, stuck_here}
 
@@ -118,9 +118,9 @@ plain_of atom None = Plain atom
 plain_of atom (Some value) = Valued atom value
 
 pub plain_case : (next : Option Kind) → (next ≡ Some bang → ⊥) → (next ≡ Some question → ⊥)
-    → IsCase (pair atom_pieces (optional_behind colon value_pieces)) (either colon never) assertion_pieces (either colon never) next (λ p. plain_of p.0 p.1)
+    → IsCase (pair atom_pieces (optional_after colon value_pieces)) (either colon never) assertion_pieces (either colon never) next (λ p. plain_of p.0 p.1)
 plain_case next no_bang no_question = record { same = λ p. same p.0 p.1; ends = λ more h. h; cases = cases } where
-  same : (a : AtomForm) (v : Option ValueWord) → assertion_pieces (plain_of a v) ≡ atom_pieces a ++ optional_behind colon value_pieces v
+  same : (a : AtomForm) (v : Option ValueWord) → assertion_pieces (plain_of a v) ≡ atom_pieces a ++ optional_after colon value_pieces v
   same a None = sym (append_nil (atom_pieces a))
   same a (Some v) = refl
 

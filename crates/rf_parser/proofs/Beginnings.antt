@@ -13,8 +13,8 @@ use Rattle.rf_syntax.specs.Name.{kind_of_name}
 use Rattle.rf_syntax.specs.Piece.{kinds_of}
 use Rattle.rf_syntax.specs.Statement.{statement_pieces}
 use Rattle.rf_syntax.specs.Terminals.{bang, declare_word, default_word, multi_word, question, scope_word}
-use Rattle.rf_parser.specs.Parts.{BeginsClass, BeginsNoWord, BeginsPredicate}
-use Rattle.rf_parser.specs.Reading.{first_kind}
+use Rattle.rf_parser.specs.Private.Parts.{BeginsClass, BeginsNoWord, BeginsPredicate}
+use Rattle.rf_parser.specs.Private.Parsing.{first_kind}
 use Rattle.rf_parser.proofs.NameParts.{name_no_word}
 
 -- the kind is one with which such a statement begins

@@ -1,4 +1,4 @@
--- What is read of classes.
+-- What is parsed of classes.
 use Rattle.std.proofs.Common.{◌≡◌, ◌⊎◌, ℕ, Bool, true, false, List, [], ◌∷◌, ◌++◌, Option, None, Some, inl, inr, refl, sym, ◌∙◌, subst, append_assoc}
 use Rattle.std.specs.List.{flat_map}
 use Rattle.rf_lexer.specs.declared.keyword.Keyword.TheVariants.{Contains as ContainsWord, Container as ContainerWord, Refers as RefersWord, Opposite}
@@ -17,21 +17,21 @@ use Rattle.rf_syntax.specs.declared.statement.Statement.{Statement}
 use Rattle.rf_syntax.specs.declared.statement.Statement.TheVariants.{Class, Predicate, Declare, Multi, Scope, Assert}
 use Rattle.rf_syntax.specs.Class.{body_pieces, feature_pieces, feature_word_pieces}
 use Rattle.rf_syntax.specs.Name.{kind_of_name, name_pieces}
-use Rattle.rf_syntax.specs.Parts.{flagged, optional, optional_behind, separated}
+use Rattle.rf_syntax.specs.Parts.{flagged, optional, optional_after, separated}
 use Rattle.rf_syntax.specs.Piece.{Piece, kinds_of, terminal}
 use Rattle.rf_syntax.specs.Range.{mult_pieces}
 use Rattle.rf_syntax.specs.Statement.{statement_pieces}
 use Rattle.rf_syntax.specs.Terminals.{abstract_word, class_word, comma, container_word, contains_word, dot, extends_word, left_brace, left_bracket, opposite_word, refers_word, right_brace, semicolon}
 use Rattle.rf_parser.specs.Fit.{token_kinds}
-use Rattle.rf_parser.specs.Parts.{BeginsClass, BeginsPredicate, features_to_brace, mult_and_name, single}
-use Rattle.rf_parser.specs.Reading.{Halts, IsRead, IsStuck, StartsWith, either, first_kind, never}
+use Rattle.rf_parser.specs.Private.Parts.{BeginsClass, BeginsPredicate, features_to_brace, mult_and_name, single}
+use Rattle.rf_parser.specs.Private.Parsing.{Halts, Parses, IsStuck, StartsWith, either, first_kind, never}
 use Rattle.rf_parser.proofs.Beginnings.{begun}
-use Rattle.rf_parser.proofs.Fronts.{halts_fewer, halts_never, halts_not, kinds_then}
+use Rattle.rf_parser.proofs.Prefixes.{halts_fewer, halts_never, halts_not, kinds_then}
 use Rattle.rf_parser.proofs.NameParts.{name_no_mark, name_no_word}
-use Rattle.rf_parser.proofs.Singles.{starts_first, starts_read}
-use Rattle.rf_parser.proofs.Wholes.{Apart, Begins, IsCase, pair, read_as, read_less, read_nothing, read_then, stuck_as, stuck_first, stuck_then}
+use Rattle.rf_parser.proofs.Singles.{starts_first, starts_parsed}
+use Rattle.rf_parser.proofs.Wholes.{Apart, Begins, IsCase, pair, parsed_as, parsed_less, parsed_nothing, parsed_then, stuck_as, stuck_first, stuck_then}
 
--- the word in front of a feature
+-- the word before a feature
 abbrev pub word_longer : Kind → Type 0
 word_longer = either contains_word (either container_word (either refers_word never))
 
@@ -60,8 +60,8 @@ refers_case next e = record { same = λ u. refl; ends = λ more h. halts_never m
   cases (Some Refers) = inl (tt, refl)
 
 pub no_word : {ts : List Token} → (first_kind (token_kinds ts) ≡ Some contains_word → ⊥) → (first_kind (token_kinds ts) ≡ Some container_word → ⊥)
-    → (first_kind (token_kinds ts) ≡ Some refers_word → ⊥) → IsRead (optional feature_word_pieces) word_longer ts None ts
-no_word {ts} a b c = read_nothing None refl cases where
+    → (first_kind (token_kinds ts) ≡ Some refers_word → ⊥) → Parses (optional feature_word_pieces) word_longer ts None ts
+no_word {ts} a b c = parsed_nothing None refl cases where
   cases : (o : Option FeatureWord) → (o ≡ None) ⊎ Begins (optional feature_word_pieces) word_longer (first_kind (token_kinds ts)) o
   cases None = inl refl
   cases (Some Contains) = inr (λ more h e. a (sym e))
@@ -69,25 +69,25 @@ no_word {ts} a b c = read_nothing None refl cases where
   cases (Some Refers) = inr (λ more h e. c (sym e))
 
 -- a name with its multiplicity
-pub in_front_case : (next : Option Kind) → next ≡ Some left_bracket → IsCase (pair mult_pieces name_pieces) never mult_and_name (either left_bracket never) next (λ p. (AfterType p.0, p.1))
-in_front_case next e = record { same = λ p. refl; ends = λ more h. halts_never more; cases = λ t. cases t.0 t.1 } where
+pub mult_first_case : (next : Option Kind) → next ≡ Some left_bracket → IsCase (pair mult_pieces name_pieces) never mult_and_name (either left_bracket never) next (λ p. (AfterType p.0, p.1))
+mult_first_case next e = record { same = λ p. refl; ends = λ more h. halts_never more; cases = λ t. cases t.0 t.1 } where
   cases : (place : MultPlace) (n : Name) → ((p : Mult × Name) × (◌≡◌ {A = MultPlace × Name} (AfterType p.0, p.1) (place, n))) ⊎ Begins mult_and_name (either left_bracket never) next (place, n)
   cases Absent n = inr (λ more h f. name_no_mark n LeftBracket (let both = f ∙ e in cc))
   cases (AfterType mult) n = inl ((mult, n), refl)
   cases (AfterName mult) n = inr (λ more h f. name_no_mark n LeftBracket (let both = f ∙ e in cc))
 
-abbrev pub placed_of : Name → Option Mult → MultPlace × Name
-placed_of n None = (Absent, n)
-placed_of n (Some mult) = (AfterName mult, n)
+abbrev pub with_mult_of : Name → Option Mult → MultPlace × Name
+with_mult_of n None = (Absent, n)
+with_mult_of n (Some mult) = (AfterName mult, n)
 
-pub behind_case : (next : Option Kind) → (next ≡ Some left_bracket → ⊥)
-    → IsCase (pair name_pieces (optional mult_pieces)) (either left_bracket never) mult_and_name (either left_bracket never) next (λ p. placed_of p.0 p.1)
-behind_case next none = record { same = λ p. same p.0 p.1; ends = λ more h. h; cases = λ t. cases t.0 t.1 } where
-  same : (n : Name) (mult : Option Mult) → mult_and_name (placed_of n mult) ≡ name_pieces n ++ optional mult_pieces mult
+pub name_first_case : (next : Option Kind) → (next ≡ Some left_bracket → ⊥)
+    → IsCase (pair name_pieces (optional mult_pieces)) (either left_bracket never) mult_and_name (either left_bracket never) next (λ p. with_mult_of p.0 p.1)
+name_first_case next none = record { same = λ p. same p.0 p.1; ends = λ more h. h; cases = λ t. cases t.0 t.1 } where
+  same : (n : Name) (mult : Option Mult) → mult_and_name (with_mult_of n mult) ≡ name_pieces n ++ optional mult_pieces mult
   same n None = refl
   same n (Some mult) = refl
 
-  cases : (place : MultPlace) (n : Name) → ((p : Name × Option Mult) × (◌≡◌ {A = MultPlace × Name} (placed_of p.0 p.1) (place, n))) ⊎ Begins mult_and_name (either left_bracket never) next (place, n)
+  cases : (place : MultPlace) (n : Name) → ((p : Name × Option Mult) × (◌≡◌ {A = MultPlace × Name} (with_mult_of p.0 p.1) (place, n))) ⊎ Begins mult_and_name (either left_bracket never) next (place, n)
   cases Absent n = inl ((n, None), refl)
   cases (AfterType mult) n = inr (λ more h e. none (sym e))
   cases (AfterName mult) n = inl ((n, Some mult), refl)
@@ -98,14 +98,14 @@ some_mult_case next e = record { same = λ m. refl; ends = λ more h. halts_neve
   cases None = inr (λ more h f. halts_not (either left_bracket never) left_bracket more h (inl refl) (f ∙ e))
   cases (Some m) = inl (m, refl)
 
-pub some_mult : {ts rest : List Token} {mult : Mult} → first_kind (token_kinds ts) ≡ Some left_bracket → IsRead mult_pieces never ts mult rest → IsRead (optional mult_pieces) (either left_bracket never) ts (Some mult) rest
-some_mult e h = read_as (some_mult_case _ e) h
+pub some_mult : {ts rest : List Token} {mult : Mult} → first_kind (token_kinds ts) ≡ Some left_bracket → Parses mult_pieces never ts mult rest → Parses (optional mult_pieces) (either left_bracket never) ts (Some mult) rest
+some_mult e h = parsed_as (some_mult_case _ e) h
 
 pub some_mult_stuck : {ts : List Token} {left : ℕ} → first_kind (token_kinds ts) ≡ Some left_bracket → IsStuck mult_pieces never ts left → IsStuck (optional mult_pieces) (either left_bracket never) ts left
 some_mult_stuck e h = stuck_as (some_mult_case _ e) h
 
-pub no_mult : {ts : List Token} → (first_kind (token_kinds ts) ≡ Some left_bracket → ⊥) → IsRead (optional mult_pieces) (either left_bracket never) ts None ts
-no_mult {ts} none = read_nothing None refl cases where
+pub no_mult : {ts : List Token} → (first_kind (token_kinds ts) ≡ Some left_bracket → ⊥) → Parses (optional mult_pieces) (either left_bracket never) ts None ts
+no_mult {ts} none = parsed_nothing None refl cases where
   cases : (o : Option Mult) → (o ≡ None) ⊎ Begins (optional mult_pieces) (either left_bracket never) (first_kind (token_kinds ts)) o
   cases None = inl refl
   cases (Some m) = inr (λ more h e. none (sym e))
@@ -118,7 +118,7 @@ abbrev pub ends_with : Bool → List Piece
 ends_with b = flagged b semicolon
 
 abbrev pub feature_end : Option Name × Bool → List Piece
-feature_end p = pair (optional_behind opposite_word name_pieces) ends_with p
+feature_end p = pair (optional_after opposite_word name_pieces) ends_with p
 
 abbrev pub feature_rest : (MultPlace × Name) × (Option Name × Bool) → List Piece
 feature_rest p = pair mult_and_name feature_end p
@@ -133,7 +133,7 @@ pub feature_case : (next : Option Kind)
     → IsCase (pair (optional feature_word_pieces) feature_named) feature_longer feature_pieces feature_longer next
     (λ p. record { word = p.0; target = p.1.0; name = p.1.1.0.1; mult = p.1.1.0.0; opposite = p.1.1.1.0; semicolon = p.1.1.1.1 })
 feature_case next = record {
-  same = λ p. joined_parts (optional feature_word_pieces p.0) (name_pieces p.1.0) (mult_and_name p.1.1.0) (optional_behind opposite_word name_pieces p.1.1.1.0) (flagged p.1.1.1.1 semicolon);
+  same = λ p. joined_parts (optional feature_word_pieces p.0) (name_pieces p.1.0) (mult_and_name p.1.1.0) (optional_after opposite_word name_pieces p.1.1.1.0) (flagged p.1.1.1.1 semicolon);
   ends = λ more h. h;
   cases = λ f. inl ((f.word, (f.target, ((f.mult, f.name), (f.opposite, f.semicolon)))), refl);
 }
@@ -166,8 +166,8 @@ opposite_apart b more h = apart b where
 third : (k : Kind) → either semicolon never k → feature_longer k
 third k e = elim e [ inl same ↦ inr (inr (inl same)) | inr none ↦ absurd none ]
 
-pub semicolon_read : {ts rest : List Token} {b : Bool} → IsRead (λ b. flagged b semicolon) (either semicolon never) ts b rest → IsRead ends_with feature_longer ts b rest
-semicolon_read h = read_less (λ more k. halts_fewer (either semicolon never) feature_longer more third k) h
+pub semicolon_parsed : {ts rest : List Token} {b : Bool} → Parses (λ b. flagged b semicolon) (either semicolon never) ts b rest → Parses ends_with feature_longer ts b rest
+semicolon_parsed h = parsed_less (λ more k. halts_fewer (either semicolon never) feature_longer more third k) h
 
 -- features up to the brace
 feature_first : (f : Feature) (more : List Kind) → Halts feature_longer (kinds_of (feature_pieces f) ++ more)
@@ -201,11 +201,11 @@ more_features next none = record { same = λ p. append_assoc (feature_pieces p.0
   cases [] = inr (λ more h e. none (sym e))
   cases (f ∷ fs) = inl ((f, fs), refl)
 
-pub feature_more : {ts next : List Token} {f : Feature} → (first_kind (token_kinds ts) ≡ Some right_brace → ⊥) → IsRead feature_pieces feature_longer ts f next
-    → (fs : List Feature) (after : List Token) → IsRead features_to_brace never next fs after → IsRead features_to_brace never ts (f ∷ fs) after
-feature_more none h fs after k = read_as (more_features _ none) (read_then features_apart h k)
+pub feature_more : {ts next : List Token} {f : Feature} → (first_kind (token_kinds ts) ≡ Some right_brace → ⊥) → Parses feature_pieces feature_longer ts f next
+    → (fs : List Feature) (after : List Token) → Parses features_to_brace never next fs after → Parses features_to_brace never ts (f ∷ fs) after
+feature_more none h fs after k = parsed_as (more_features _ none) (parsed_then features_apart h k)
 
-pub feature_more_stuck : {ts next : List Token} {f : Feature} → (first_kind (token_kinds ts) ≡ Some right_brace → ⊥) → IsRead feature_pieces feature_longer ts f next
+pub feature_more_stuck : {ts next : List Token} {f : Feature} → (first_kind (token_kinds ts) ≡ Some right_brace → ⊥) → Parses feature_pieces feature_longer ts f next
     → (left : ℕ) → IsStuck features_to_brace never next left → IsStuck features_to_brace never ts left
 feature_more_stuck none h left k = stuck_as (more_features _ none) (stuck_then features_apart h k)
 
@@ -228,8 +228,8 @@ no_features next e = record { same = λ u. refl; ends = λ more h. h; cases = ca
   cases [] = inl (tt, refl)
   cases (f ∷ fs) = inr (λ more h g. begun_feature f fs more (g ∙ e))
 
-pub features_end : {ts rest : List Token} → StartsWith ts right_brace rest → IsRead features_to_brace never ts [] rest
-features_end s = read_as (no_features _ (starts_first s)) (starts_read s)
+pub features_end : {ts rest : List Token} → StartsWith ts right_brace rest → Parses features_to_brace never ts [] rest
+features_end s = parsed_as (no_features _ (starts_first s)) (starts_parsed s)
 
 -- the body of a class
 pub brace_case : (next : Option Kind) → next ≡ Some left_brace → IsCase (pair (single left_brace) features_to_brace) never body_pieces never next (λ p. Some p.1)
@@ -249,7 +249,7 @@ abbrev pub class_flag : Bool → List Piece
 class_flag b = flagged b abstract_word
 
 abbrev pub class_supers : Option (NonEmpty Name) → List Piece
-class_supers supers = optional_behind extends_word (separated comma name_pieces) supers
+class_supers supers = optional_after extends_word (separated comma name_pieces) supers
 
 abbrev pub class_end : Option (NonEmpty Name) × Option (List Feature) → List Piece
 class_end p = pair class_supers body_pieces p

@@ -1,7 +1,7 @@
 mod AssertionParts
 mod Beginnings
 mod ClassParts
-mod Fronts
+mod Prefixes
 mod Lengths
 mod ListParts
 mod NameParts

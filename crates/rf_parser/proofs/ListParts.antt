@@ -1,35 +1,35 @@
--- What is read of lists.
+-- What is parsed of lists.
 use Rattle.std.proofs.Common.{◌≡◌, ◌⊎◌, ℕ, List, [], ◌∷◌, ◌++◌, Option, Some, inl, inr, refl, sym, ap, ◌∙◌, subst, append_assoc}
 use Rattle.rf_lexer.specs.declared.token.Kind.{Kind}
 use Rattle.rf_lexer.specs.declared.token.Token.{Token}
-use Rattle.rf_syntax.specs.Parts.{each_behind, separated, separated_or_none}
+use Rattle.rf_syntax.specs.Parts.{each_after, separated, separated_or_none}
 use Rattle.rf_syntax.specs.Piece.{Piece, kinds_of, terminal}
 use Rattle.rf_syntax.specs.Terminals.{comma, left_paren, right_paren}
 use Rattle.rf_parser.specs.Fit.{token_kinds}
-use Rattle.rf_parser.specs.Parts.{listed_in_parens, single}
-use Rattle.rf_parser.specs.Reading.{Adds, Halts, IsRead, IsStuck, NeverBegins, StartsWith, either, first_kind, never}
-use Rattle.rf_parser.proofs.Fronts.{append_nil, kinds_then}
+use Rattle.rf_parser.specs.Private.Parts.{listed_in_parens, single}
+use Rattle.rf_parser.specs.Private.Parsing.{Adds, Halts, Parses, IsStuck, NeverBegins, StartsWith, either, first_kind, never}
+use Rattle.rf_parser.proofs.Prefixes.{append_nil, kinds_then}
 use Rattle.rf_parser.proofs.Optionals.{halts_less}
-use Rattle.rf_parser.proofs.Singles.{not_halted, starts_first, starts_read}
-use Rattle.rf_parser.proofs.Wholes.{Apart, Begins, IsCase, pair, read_as, read_next, read_nothing, read_then, stuck_as, stuck_first, stuck_next, stuck_start, stuck_then}
+use Rattle.rf_parser.proofs.Singles.{not_halted, starts_first, starts_parsed}
+use Rattle.rf_parser.proofs.Wholes.{Apart, Begins, IsCase, pair, parsed_as, parsed_next, parsed_nothing, parsed_then, stuck_as, stuck_first, stuck_next, stuck_start, stuck_then}
 
--- what is read of the parts from rest on, with those before it, is read of all of them
+-- what is parsed of the parts from rest on, with those before it, is parsed of all of them
 pub record Onward {T : Type 0} (pieces : List T → List Piece) (longer : Kind → Type 0) (tokens : List Token) (parts : List T) (rest : List Token) : Type 0 where
-  pub read : (others : List T) (after : List Token) → IsRead pieces longer rest others after → IsRead pieces longer tokens (parts ++ others) after
+  pub parsed : (others : List T) (after : List Token) → Parses pieces longer rest others after → Parses pieces longer tokens (parts ++ others) after
   pub stuck : (left : ℕ) → IsStuck pieces longer rest left → IsStuck pieces longer tokens left
 
 pub onward_start : {T : Type 0} {pieces : List T → List Piece} {longer : Kind → Type 0} {tokens : List Token} → Onward pieces longer tokens [] tokens
-onward_start = record { read = λ others after h. h; stuck = λ left h. h }
+onward_start = record { parsed = λ others after h. h; stuck = λ left h. h }
 
--- one part more, where the parts that begin with it are read by the rest
+-- one part more, where the parts that begin with it are parsed by the rest
 pub onward_more : {T : Type 0} {pieces : List T → List Piece} {longer : Kind → Type 0} {tokens rest next : List Token} {parts : List T} (part : T)
     → Onward pieces longer tokens parts rest
-    → ((others : List T) (after : List Token) → IsRead pieces longer next others after → IsRead pieces longer rest (part ∷ others) after)
+    → ((others : List T) (after : List Token) → Parses pieces longer next others after → Parses pieces longer rest (part ∷ others) after)
     → ((left : ℕ) → IsStuck pieces longer next left → IsStuck pieces longer rest left)
     → Onward pieces longer tokens (parts ++ part ∷ []) next
-onward_more {pieces = pieces} {longer} {tokens} {rest} {next} {parts} part so_far read stuck = record {
-  read = λ others after h. subst (λ ps. IsRead pieces longer tokens ps after) (sym (append_assoc parts (part ∷ []) others))
-      (so_far.read (part ∷ others) after (read others after h));
+onward_more {pieces = pieces} {longer} {tokens} {rest} {next} {parts} part so_far parsed stuck = record {
+  parsed = λ others after h. subst (λ ps. Parses pieces longer tokens ps after) (sym (append_assoc parts (part ∷ []) others))
+      (so_far.parsed (part ∷ others) after (parsed others after h));
   stuck = λ left h. so_far.stuck left (stuck left h);
 }
 
@@ -45,84 +45,84 @@ so_far_start e = record { parts = []; added = e; onward = onward_start }
 pub so_far_more : {T : Type 0} {pieces : List T → List Piece} {longer : Kind → Type 0} {tokens rest next : List Token} {old new more : List T} {part : T}
     → SoFar pieces longer tokens old new rest
     → more ≡ new ++ part ∷ []
-    → ((others : List T) (after : List Token) → IsRead pieces longer next others after → IsRead pieces longer rest (part ∷ others) after)
+    → ((others : List T) (after : List Token) → Parses pieces longer next others after → Parses pieces longer rest (part ∷ others) after)
     → ((left : ℕ) → IsStuck pieces longer next left → IsStuck pieces longer rest left)
     → SoFar pieces longer tokens old more next
-so_far_more {old = old} {part = part} h e read stuck = record {
+so_far_more {old = old} {part = part} h e parsed stuck = record {
   parts = h.parts ++ part ∷ [];
   added = e ∙ ap (λ xs. xs ++ part ∷ []) h.added ∙ append_assoc old h.parts (part ∷ []);
-  onward = onward_more part h.onward read stuck;
+  onward = onward_more part h.onward parsed stuck;
 }
 
 pub so_far_end : {T : Type 0} {pieces : List T → List Piece} {longer : Kind → Type 0} {tokens rest after : List Token} {old new : List T}
-    → SoFar pieces longer tokens old new rest → IsRead pieces longer rest [] after → Adds pieces longer tokens old new after
+    → SoFar pieces longer tokens old new rest → Parses pieces longer rest [] after → Adds pieces longer tokens old new after
 so_far_end {pieces = pieces} {longer} {tokens} {after = after} h k = record {
   parts = h.parts;
   added = h.added;
-  read = subst (λ ps. IsRead pieces longer tokens ps after) (append_nil h.parts) (h.onward.read [] after k);
+  parsed = subst (λ ps. Parses pieces longer tokens ps after) (append_nil h.parts) (h.onward.parsed [] after k);
 }
 
--- parts, each behind a kind
+-- parts, each after a kind
 module _ {T : Type 0} (pieces : T → List Piece) (longer : Kind → Type 0) (kind : Kind) where
   more_cases : (next : Option Kind) → next ≡ Some kind → (parts : List T)
-      → ((p : Unit {0} × (T × List T)) × (p.1.0 ∷ p.1.1 ≡ parts)) ⊎ Begins (each_behind kind pieces) (either kind longer) next parts
+      → ((p : Unit {0} × (T × List T)) × (p.1.0 ∷ p.1.1 ≡ parts)) ⊎ Begins (each_after kind pieces) (either kind longer) next parts
   more_cases next e [] = inr (λ more h f. not_halted kind longer more h (f ∙ e))
   more_cases next e (part ∷ parts) = inl ((tt, (part, parts)), refl)
 
   pub more_case : {ts after : List Token} → StartsWith ts kind after
-      → IsCase (pair (single kind) (pair pieces (each_behind kind pieces))) (either kind longer) (each_behind kind pieces) (either kind longer) (first_kind (token_kinds ts)) (λ p. p.1.0 ∷ p.1.1)
+      → IsCase (pair (single kind) (pair pieces (each_after kind pieces))) (either kind longer) (each_after kind pieces) (either kind longer) (first_kind (token_kinds ts)) (λ p. p.1.0 ∷ p.1.1)
   more_case s = record { same = λ p. refl; ends = λ more h. h; cases = more_cases _ (starts_first s) }
 
   -- the next part's kind doesn't make a part longer
-  pub each_apart : (longer kind → ⊥) → Apart longer (each_behind kind pieces) (either kind longer)
+  pub each_apart : (longer kind → ⊥) → Apart longer (each_after kind pieces) (either kind longer)
   each_apart apart [] more h = halts_less kind longer more h
   each_apart apart (part ∷ parts) more h = apart
 
-  no_more_cases : (next : Option Kind) → (next ≡ Some kind → ⊥) → (parts : List T) → (parts ≡ []) ⊎ Begins (each_behind kind pieces) (either kind longer) next parts
+  no_more_cases : (next : Option Kind) → (next ≡ Some kind → ⊥) → (parts : List T) → (parts ≡ []) ⊎ Begins (each_after kind pieces) (either kind longer) next parts
   no_more_cases next none [] = inl refl
   no_more_cases next none (part ∷ parts) = inr (λ more h e. none (sym e))
 
 module _ {T : Type 0} {pieces : T → List Piece} {longer : Kind → Type 0} {kind : Kind} where
-  pub more_read : {ts after next : List Token} {part : T} → (longer kind → ⊥) → StartsWith ts kind after → IsRead pieces longer after part next
-      → (others : List T) (rest : List Token) → IsRead (each_behind kind pieces) (either kind longer) next others rest
-      → IsRead (each_behind kind pieces) (either kind longer) ts (part ∷ others) rest
-  more_read apart s h others rest k =
-      read_as (more_case pieces longer kind s) (read_next (starts_read s) (read_then (each_apart pieces longer kind apart) h k))
+  pub more_parsed : {ts after next : List Token} {part : T} → (longer kind → ⊥) → StartsWith ts kind after → Parses pieces longer after part next
+      → (others : List T) (rest : List Token) → Parses (each_after kind pieces) (either kind longer) next others rest
+      → Parses (each_after kind pieces) (either kind longer) ts (part ∷ others) rest
+  more_parsed apart s h others rest k =
+      parsed_as (more_case pieces longer kind s) (parsed_next (starts_parsed s) (parsed_then (each_apart pieces longer kind apart) h k))
 
-  pub more_stuck : {ts after next : List Token} {part : T} → (longer kind → ⊥) → StartsWith ts kind after → IsRead pieces longer after part next
-      → (left : ℕ) → IsStuck (each_behind kind pieces) (either kind longer) next left → IsStuck (each_behind kind pieces) (either kind longer) ts left
+  pub more_stuck : {ts after next : List Token} {part : T} → (longer kind → ⊥) → StartsWith ts kind after → Parses pieces longer after part next
+      → (left : ℕ) → IsStuck (each_after kind pieces) (either kind longer) next left → IsStuck (each_after kind pieces) (either kind longer) ts left
   more_stuck apart s h left k =
-      stuck_as (more_case pieces longer kind s) (stuck_next (starts_read s) (stuck_then (each_apart pieces longer kind apart) h k))
+      stuck_as (more_case pieces longer kind s) (stuck_next (starts_parsed s) (stuck_then (each_apart pieces longer kind apart) h k))
 
   pub more_stuck_part : {ts after : List Token} {left : ℕ} → (longer kind → ⊥) → StartsWith ts kind after → IsStuck pieces longer after left
-      → IsStuck (each_behind kind pieces) (either kind longer) ts left
+      → IsStuck (each_after kind pieces) (either kind longer) ts left
   more_stuck_part apart s h =
       stuck_as (more_case pieces longer kind s)
-      (stuck_next (starts_read s) (stuck_first (each_behind kind pieces) [] (each_apart pieces longer kind apart) h))
+      (stuck_next (starts_parsed s) (stuck_first (each_after kind pieces) [] (each_apart pieces longer kind apart) h))
 
-pub no_more : {T : Type 0} (pieces : T → List Piece) (longer : Kind → Type 0) (kind : Kind) {ts : List Token} → (first_kind (token_kinds ts) ≡ Some kind → ⊥) → IsRead (each_behind kind pieces) (either kind longer) ts [] ts
-no_more pieces longer kind none = read_nothing [] refl (no_more_cases pieces longer kind _ none)
+pub no_more : {T : Type 0} (pieces : T → List Piece) (longer : Kind → Type 0) (kind : Kind) {ts : List Token} → (first_kind (token_kinds ts) ≡ Some kind → ⊥) → Parses (each_after kind pieces) (either kind longer) ts [] ts
+no_more pieces longer kind none = parsed_nothing [] refl (no_more_cases pieces longer kind _ none)
 
--- a first part and others behind a kind
+-- a first part and others after a kind
 module _ {T : Type 0} (pieces : T → List Piece) (longer : Kind → Type 0) (kind : Kind) where
-  separated_case : (next : Option Kind) → IsCase (pair pieces (each_behind kind pieces)) (either kind longer) (separated kind pieces) (either kind longer) next (λ p. record { first = p.0; rest = p.1 })
+  separated_case : (next : Option Kind) → IsCase (pair pieces (each_after kind pieces)) (either kind longer) (separated kind pieces) (either kind longer) next (λ p. record { first = p.0; rest = p.1 })
   separated_case next = record { same = λ p. refl; ends = λ more h. h; cases = λ ps. inl ((ps.first, ps.rest), refl) }
 
 module _ {T : Type 0} {pieces : T → List Piece} {longer : Kind → Type 0} {kind : Kind} where
   pub separated_stuck : {ts : List Token} {left : ℕ} → (longer kind → ⊥) → IsStuck pieces longer ts left → IsStuck (separated kind pieces) (either kind longer) ts left
-  separated_stuck apart h = stuck_as (separated_case pieces longer kind _) (stuck_first (each_behind kind pieces) [] (each_apart pieces longer kind apart) h)
+  separated_stuck apart h = stuck_as (separated_case pieces longer kind _) (stuck_first (each_after kind pieces) [] (each_apart pieces longer kind apart) h)
 
-  pub separated_stuck_behind : {ts after : List Token} {part : T} {left : ℕ} → (longer kind → ⊥) → IsRead pieces longer ts part after
-      → IsStuck (each_behind kind pieces) (either kind longer) after left → IsStuck (separated kind pieces) (either kind longer) ts left
-  separated_stuck_behind apart h k = stuck_as (separated_case pieces longer kind _) (stuck_then (each_apart pieces longer kind apart) h k)
+  pub separated_stuck_after : {ts after : List Token} {part : T} {left : ℕ} → (longer kind → ⊥) → Parses pieces longer ts part after
+      → IsStuck (each_after kind pieces) (either kind longer) after left → IsStuck (separated kind pieces) (either kind longer) ts left
+  separated_stuck_after apart h k = stuck_as (separated_case pieces longer kind _) (stuck_then (each_apart pieces longer kind apart) h k)
 
-  pub separated_read : {ts after rest : List Token} {part : T} {old new : List T} → (longer kind → ⊥) → IsRead pieces longer ts part after
-      → old ≡ [] → Adds (each_behind kind pieces) (either kind longer) after old new rest
-      → IsRead (separated kind pieces) (either kind longer) ts (record { first = part; rest = new }) rest
-  separated_read {ts} {rest = rest} {part} apart h e k =
+  pub separated_parsed : {ts after rest : List Token} {part : T} {old new : List T} → (longer kind → ⊥) → Parses pieces longer ts part after
+      → old ≡ [] → Adds (each_after kind pieces) (either kind longer) after old new rest
+      → Parses (separated kind pieces) (either kind longer) ts (record { first = part; rest = new }) rest
+  separated_parsed {ts} {rest = rest} {part} apart h e k =
       let whole = k.added ∙ ap (λ xs. xs ++ k.parts) e in
-      subst (λ ps. IsRead (separated kind pieces) (either kind longer) ts (record { first = part; rest = ps }) rest) (sym whole)
-      (read_as (separated_case pieces longer kind _) (read_then (each_apart pieces longer kind apart) h k.read))
+      subst (λ ps. Parses (separated kind pieces) (either kind longer) ts (record { first = part; rest = ps }) rest) (sym whole)
+      (parsed_as (separated_case pieces longer kind _) (parsed_then (each_apart pieces longer kind apart) h k.parsed))
 
 -- parts with commas between them in parentheses
 abbrev to_paren : {T : Type 0} → (T → List Piece) → List T → List Piece
@@ -140,7 +140,7 @@ module _ {T : Type 0} (pieces : T → List Piece) (longer : Kind → Type 0) whe
 
   begins_part : NeverBegins pieces right_paren → (part : T) (parts : List T) (more : List Kind) → first_kind (kinds_of (to_paren pieces (part ∷ parts)) ++ more) ≡ Some right_paren → ⊥
   begins_part begins part parts more e =
-      let rest = each_behind comma pieces parts in
+      let rest = each_after comma pieces parts in
       let whole = kinds_then (pieces part ++ rest) (terminal right_paren ∷ []) more ∙ kinds_then (pieces part) rest (right_paren ∷ more) in
       begins part (kinds_of rest ++ right_paren ∷ more) (sym (ap first_kind whole) ∙ e)
 
@@ -157,16 +157,16 @@ module _ {T : Type 0} (pieces : T → List Piece) (longer : Kind → Type 0) whe
   some_cases next none (part ∷ parts) = inl ((part, (parts, tt)), refl)
 
   some_case : (next : Option Kind) → (next ≡ Some right_paren → ⊥)
-      → IsCase (pair pieces (pair (each_behind comma pieces) (single right_paren))) never (to_paren pieces) never next (λ p. p.0 ∷ p.1.0)
+      → IsCase (pair pieces (pair (each_after comma pieces) (single right_paren))) never (to_paren pieces) never next (λ p. p.0 ∷ p.1.0)
   some_case next none = record {
-    same = λ p. append_assoc (pieces p.0) (each_behind comma pieces p.1.0) (terminal right_paren ∷ []);
+    same = λ p. append_assoc (pieces p.0) (each_after comma pieces p.1.0) (terminal right_paren ∷ []);
     ends = λ more h. h;
     cases = some_cases next none;
   }
 
-  part_apart : Listed pieces longer → Apart longer (pair (each_behind comma pieces) (single right_paren)) never
+  part_apart : Listed pieces longer → Apart longer (pair (each_after comma pieces) (single right_paren)) never
   part_apart l b more h = apart b.0 where
-    apart : (parts : List T) → Halts longer (kinds_of (each_behind comma pieces parts ++ terminal right_paren ∷ []) ++ more)
+    apart : (parts : List T) → Halts longer (kinds_of (each_after comma pieces parts ++ terminal right_paren ∷ []) ++ more)
     apart [] = l.no_paren
     apart (part ∷ parts) = l.no_comma
 
@@ -177,33 +177,33 @@ pub parens_stuck : {T : Type 0} (pieces : T → List Piece) (longer : Kind → T
 parens_stuck pieces longer h = stuck_as (parens_case pieces longer _) (stuck_start (to_paren pieces) [] h)
 
 module _ {T : Type 0} {pieces : T → List Piece} {longer : Kind → Type 0} where
-  pub parens_empty : {ts inner rest : List Token} {parts : List T} → Listed pieces longer → parts ≡ [] → IsRead (single left_paren) never ts tt inner → StartsWith inner right_paren rest
-      → IsRead (listed_in_parens pieces) never ts parts rest
-  parens_empty {ts} {rest = rest} l e h s = subst (λ ps. IsRead (listed_in_parens pieces) never ts ps rest) (sym e) (read_as (parens_case pieces longer _) (read_next h (read_as (empty_case pieces longer l.begins _ (starts_first s)) (starts_read s))))
+  pub parens_empty : {ts inner rest : List Token} {parts : List T} → Listed pieces longer → parts ≡ [] → Parses (single left_paren) never ts tt inner → StartsWith inner right_paren rest
+      → Parses (listed_in_parens pieces) never ts parts rest
+  parens_empty {ts} {rest = rest} l e h s = subst (λ ps. Parses (listed_in_parens pieces) never ts ps rest) (sym e) (parsed_as (parens_case pieces longer _) (parsed_next h (parsed_as (empty_case pieces longer l.begins _ (starts_first s)) (starts_parsed s))))
 
-  pub parens_stuck_first : {ts inner : List Token} {left : ℕ} → Listed pieces longer → IsRead (single left_paren) never ts tt inner → (first_kind (token_kinds inner) ≡ Some right_paren → ⊥)
+  pub parens_stuck_first : {ts inner : List Token} {left : ℕ} → Listed pieces longer → Parses (single left_paren) never ts tt inner → (first_kind (token_kinds inner) ≡ Some right_paren → ⊥)
       → IsStuck pieces longer inner left → IsStuck (listed_in_parens pieces) never ts left
   parens_stuck_first l h none k =
       stuck_as (parens_case pieces longer _) (stuck_next h
-      (stuck_as (some_case pieces longer _ none) (stuck_first (pair (each_behind comma pieces) (single right_paren)) ([], tt) (part_apart pieces longer l) k)))
+      (stuck_as (some_case pieces longer _ none) (stuck_first (pair (each_after comma pieces) (single right_paren)) ([], tt) (part_apart pieces longer l) k)))
 
-  pub parens_stuck_each : {ts inner after : List Token} {part : T} {left : ℕ} → Listed pieces longer → IsRead (single left_paren) never ts tt inner → (first_kind (token_kinds inner) ≡ Some right_paren → ⊥)
-      → IsRead pieces longer inner part after → IsStuck (each_behind comma pieces) (either comma longer) after left → IsStuck (listed_in_parens pieces) never ts left
+  pub parens_stuck_each : {ts inner after : List Token} {part : T} {left : ℕ} → Listed pieces longer → Parses (single left_paren) never ts tt inner → (first_kind (token_kinds inner) ≡ Some right_paren → ⊥)
+      → Parses pieces longer inner part after → IsStuck (each_after comma pieces) (either comma longer) after left → IsStuck (listed_in_parens pieces) never ts left
   parens_stuck_each l h none k m =
       stuck_as (parens_case pieces longer _) (stuck_next h
       (stuck_as (some_case pieces longer _ none) (stuck_then (part_apart pieces longer l) k (stuck_first (single right_paren) tt (each_to_paren pieces longer l) m))))
 
-  pub parens_stuck_end : {ts inner after end : List Token} {part : T} {old new : List T} {left : ℕ} → Listed pieces longer → IsRead (single left_paren) never ts tt inner → (first_kind (token_kinds inner) ≡ Some right_paren → ⊥)
-      → IsRead pieces longer inner part after → Adds (each_behind comma pieces) (either comma longer) after old new end → IsStuck (single right_paren) never end left → IsStuck (listed_in_parens pieces) never ts left
+  pub parens_stuck_end : {ts inner after end : List Token} {part : T} {old new : List T} {left : ℕ} → Listed pieces longer → Parses (single left_paren) never ts tt inner → (first_kind (token_kinds inner) ≡ Some right_paren → ⊥)
+      → Parses pieces longer inner part after → Adds (each_after comma pieces) (either comma longer) after old new end → IsStuck (single right_paren) never end left → IsStuck (listed_in_parens pieces) never ts left
   parens_stuck_end l h none k m n =
       stuck_as (parens_case pieces longer _) (stuck_next h
-      (stuck_as (some_case pieces longer _ none) (stuck_then (part_apart pieces longer l) k (stuck_then (each_to_paren pieces longer l) m.read n))))
+      (stuck_as (some_case pieces longer _ none) (stuck_then (part_apart pieces longer l) k (stuck_then (each_to_paren pieces longer l) m.parsed n))))
 
-  pub parens_read : {ts inner after end rest : List Token} {part : T} {old new : List T} → Listed pieces longer → IsRead (single left_paren) never ts tt inner → (first_kind (token_kinds inner) ≡ Some right_paren → ⊥)
-      → IsRead pieces longer inner part after → old ≡ part ∷ [] → Adds (each_behind comma pieces) (either comma longer) after old new end → IsRead (single right_paren) never end tt rest
-      → IsRead (listed_in_parens pieces) never ts new rest
-  parens_read {ts} {rest = rest} {part} l h none k e m n =
+  pub parens_parsed : {ts inner after end rest : List Token} {part : T} {old new : List T} → Listed pieces longer → Parses (single left_paren) never ts tt inner → (first_kind (token_kinds inner) ≡ Some right_paren → ⊥)
+      → Parses pieces longer inner part after → old ≡ part ∷ [] → Adds (each_after comma pieces) (either comma longer) after old new end → Parses (single right_paren) never end tt rest
+      → Parses (listed_in_parens pieces) never ts new rest
+  parens_parsed {ts} {rest = rest} {part} l h none k e m n =
       let whole = m.added ∙ ap (λ xs. xs ++ m.parts) e in
-      subst (λ ps. IsRead (listed_in_parens pieces) never ts ps rest) (sym whole)
-      (read_as (parens_case pieces longer _) (read_next h
-      (read_as (some_case pieces longer _ none) (read_then (part_apart pieces longer l) k (read_then (each_to_paren pieces longer l) m.read n)))))
+      subst (λ ps. Parses (listed_in_parens pieces) never ts ps rest) (sym whole)
+      (parsed_as (parens_case pieces longer _) (parsed_next h
+      (parsed_as (some_case pieces longer _ none) (parsed_then (part_apart pieces longer l) k (parsed_then (each_to_paren pieces longer l) m.parsed n)))))

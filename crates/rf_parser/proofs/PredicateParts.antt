@@ -1,4 +1,4 @@
--- What is read of predicates.
+-- What is parsed of predicates.
 use Rattle.std.proofs.Common.{◌≡◌, ◌⊎◌, Bool, true, false, List, [], ◌∷◌, ◌++◌, Option, None, Some, inl, inr, refl, sym, ◌∙◌, append_assoc}
 use Rattle.rf_lexer.specs.declared.keyword.Keyword.TheVariants.{Pred as PredKeyword}
 use Rattle.rf_lexer.specs.declared.mark.Mark.TheVariants.{Bang, RightParen}
@@ -13,7 +13,7 @@ use Rattle.rf_syntax.specs.declared.predicate.PredicateWord.TheVariants.{Pred, E
 use Rattle.rf_syntax.specs.declared.statement.Statement.{Statement}
 use Rattle.rf_syntax.specs.declared.statement.Statement.TheVariants.{Class, Predicate, Declare, Multi, Scope, Assert}
 use Rattle.rf_syntax.specs.Name.{name_pieces}
-use Rattle.rf_syntax.specs.Parts.{flagged, optional, optional_behind, separated}
+use Rattle.rf_syntax.specs.Parts.{flagged, optional, optional_after, separated}
 use Rattle.rf_syntax.specs.Piece.{Piece, kinds_of, terminal}
 use Rattle.rf_syntax.specs.Predicate.{clause_pieces, literal_pieces, param_pieces, start_pieces}
 use Rattle.rf_syntax.specs.Statement.{statement_pieces}
@@ -21,10 +21,10 @@ use Rattle.rf_syntax.specs.Terminals.{bang, bang_equal, colon_colon, comma, dot,
 use Rattle.rf_parser.specs.declared.predicates.CallTail.{CallTail}
 use Rattle.rf_parser.specs.declared.predicates.LiteralTail.{LiteralTail}
 use Rattle.rf_parser.specs.declared.predicates.LiteralTail.TheVariants.{Same, Differ, Call}
-use Rattle.rf_parser.specs.Parts.{BeginsPredicate, call_tail_pieces, call_with, listed_in_parens, literal_tail_pieces, literal_with, single}
-use Rattle.rf_parser.specs.Reading.{Halts, IsNameKind, NeverBegins, either, first_kind, never}
+use Rattle.rf_parser.specs.Private.Parts.{BeginsPredicate, call_tail_pieces, call_with, listed_in_parens, literal_tail_pieces, literal_with, single}
+use Rattle.rf_parser.specs.Private.Parsing.{Halts, IsNameKind, NeverBegins, either, first_kind, never}
 use Rattle.rf_parser.proofs.Beginnings.{begun}
-use Rattle.rf_parser.proofs.Fronts.{halts_never}
+use Rattle.rf_parser.proofs.Prefixes.{halts_never}
 use Rattle.rf_parser.proofs.NameParts.{a_name, name_no_mark, name_no_word}
 use Rattle.rf_parser.proofs.Wholes.{Apart, Begins, IsCase, pair}
 
@@ -81,9 +81,9 @@ abbrev pub flag_and_args : Bool × List Name → List Piece
 flag_and_args p = pair (λ (b : Bool). flagged b plus) (listed_in_parens name_pieces) p
 
 pub call_tail_case : (next : Option Kind)
-    → IsCase (pair (optional_behind colon_colon name_pieces) flag_and_args) never call_tail_pieces never next (λ p. record { member = p.0; closure = p.1.0; args = p.1.1 })
+    → IsCase (pair (optional_after colon_colon name_pieces) flag_and_args) never call_tail_pieces never next (λ p. record { member = p.0; closure = p.1.0; args = p.1.1 })
 call_tail_case next = record {
-  same = λ p. append_assoc (optional_behind colon_colon name_pieces p.0) (flagged p.1.0 plus) (listed_in_parens name_pieces p.1.1);
+  same = λ p. append_assoc (optional_after colon_colon name_pieces p.0) (flagged p.1.0 plus) (listed_in_parens name_pieces p.1.1);
   ends = λ more h. h;
   cases = λ t. inl ((t.member, (t.closure, t.args)), refl);
 }

@@ -1,4 +1,4 @@
--- What is read of ranges and multiplicities.
+-- What is parsed of ranges and multiplicities.
 use Rattle.std.proofs.Common.{◌≡◌, ◌⊎◌, ℕ, List, [], ◌∷◌, ◌++◌, Option, None, Some, inl, inr, length, refl, sym, ap, ◌∙◌}
 use Rattle.rf_lexer.specs.declared.token.Kind.{Kind}
 use Rattle.rf_lexer.specs.declared.token.Token.{Token}
@@ -10,31 +10,31 @@ use Rattle.rf_syntax.specs.Piece.{Piece, kinds_of, terminal}
 use Rattle.rf_syntax.specs.Range.{mult_pieces, range_pieces, upper_pieces}
 use Rattle.rf_syntax.specs.Terminals.{dot_dot, left_bracket, number, right_bracket, star}
 use Rattle.rf_parser.specs.Fit.{FitsPiece, token_kinds}
-use Rattle.rf_parser.specs.Parts.{single}
-use Rattle.rf_parser.specs.Reading.{Halts, IsRead, IsStuck, StartsWith, StartsWithNumber, either, first_kind, never}
-use Rattle.rf_parser.proofs.Fronts.{halts_never}
-use Rattle.rf_parser.proofs.Singles.{not_halted, read_token, starts_first, starts_read}
-use Rattle.rf_parser.proofs.Wholes.{Begins, IsCase, pair, read_as, read_next, read_nothing, read_then, stuck_as, stuck_first, stuck_here, stuck_next, stuck_start, stuck_then}
+use Rattle.rf_parser.specs.Private.Parts.{single}
+use Rattle.rf_parser.specs.Private.Parsing.{Halts, Parses, IsStuck, StartsWith, StartsWithNumber, either, first_kind, never}
+use Rattle.rf_parser.proofs.Prefixes.{halts_never}
+use Rattle.rf_parser.proofs.Singles.{not_halted, parsed_token, starts_first, starts_parsed}
+use Rattle.rf_parser.proofs.Wholes.{Begins, IsCase, pair, parsed_as, parsed_next, parsed_nothing, parsed_then, stuck_as, stuck_first, stuck_here, stuck_next, stuck_start, stuck_then}
 
--- a number whose place is kept: the number, and its place
-abbrev placed : ℕ × ℕ → List Piece
-placed p = record { kind = number p.0; at = Some p.1 } ∷ []
+-- a number whose offset is kept: the number, and its offset
+abbrev located : ℕ × ℕ → List Piece
+located p = record { kind = number p.0; at = Some p.1 } ∷ []
 
 number_first : {ts rest : List Token} {n at : ℕ} → StartsWithNumber ts n at rest → first_kind (token_kinds ts) ≡ Some (number n)
 number_first s = ap (λ (xs : List Token). first_kind (token_kinds xs)) s.joined ∙ ap (λ (k : Kind). Some k) s.kinds
 
-placed_read : {ts rest : List Token} {n at : ℕ} → StartsWithNumber ts n at rest → IsRead placed never ts (n, at) rest
-placed_read {n = n} {at} s = read_token s.token (λ p. record { kind = number p.0; at = Some p.1 }) (n, at) s.joined (λ p. refl)
-    (record { kind = s.kinds; at = sym s.place })
-    (λ p h. same_number p.0 n p.1 at (sym h.kind ∙ s.kinds) (h.at ∙ s.place))
+located_parsed : {ts rest : List Token} {n at : ℕ} → StartsWithNumber ts n at rest → Parses located never ts (n, at) rest
+located_parsed {n = n} {at} s = parsed_token s.token (λ p. record { kind = number p.0; at = Some p.1 }) (n, at) s.joined (λ p. refl)
+    (record { kind = s.kinds; at = sym s.offset })
+    (λ p h. same_number p.0 n p.1 at (sym h.kind ∙ s.kinds) (h.at ∙ s.offset))
   where
     same_number : (m n : ℕ) (a b : ℕ) → number m ≡ number n → a ≡ b → ◌≡◌ {A = ℕ × ℕ} (m, a) (n, b)
     same_number m n a b e f = let same : m ≡ n = cc in cc
 
-placed_stuck : {ts : List Token} → ((n : ℕ) → first_kind (token_kinds ts) ≡ Some (number n) → ⊥) → IsStuck placed never ts (length ts)
-placed_stuck none = stuck_here (0, 0) (λ p more h e. none p.0 (sym e))
+located_stuck : {ts : List Token} → ((n : ℕ) → first_kind (token_kinds ts) ≡ Some (number n) → ⊥) → IsStuck located never ts (length ts)
+located_stuck none = stuck_here (0, 0) (λ p more h e. none p.0 (sym e))
 
--- what stands behind the dots: a number, or the star
+-- what follows the dots: a number, or the star
 abbrev end_pieces : Option ℕ → List Piece
 end_pieces None = terminal star ∷ []
 end_pieces (Some n) = terminal (number n) ∷ []
@@ -49,11 +49,11 @@ star_case next e = record { same = λ u. refl; ends = λ more h. h; cases = case
   cases None = inl (tt, refl)
   cases (Some n) = inr (λ more h f. let both : Some (number n) ≡ Some star = f ∙ e in cc)
 
-star_read : {ts rest : List Token} → StartsWith ts star rest → IsRead end_pieces never ts None rest
-star_read s = read_as (star_case _ (starts_first s)) (starts_read s)
+star_parsed : {ts rest : List Token} → StartsWith ts star rest → Parses end_pieces never ts None rest
+star_parsed s = parsed_as (star_case _ (starts_first s)) (starts_parsed s)
 
-end_number : {ts rest : List Token} {n at : ℕ} → StartsWithNumber ts n at rest → IsRead end_pieces never ts (Some n) rest
-end_number {n = n} s = read_token s.token end_piece (Some n) s.joined one (record { kind = s.kinds; at = tt }) same where
+end_number : {ts rest : List Token} {n at : ℕ} → StartsWithNumber ts n at rest → Parses end_pieces never ts (Some n) rest
+end_number {n = n} s = parsed_token s.token end_piece (Some n) s.joined one (record { kind = s.kinds; at = tt }) same where
   end_piece : Option ℕ → Piece
   end_piece None = terminal star
   end_piece (Some m) = terminal (number m)
@@ -83,36 +83,36 @@ upper_case next e = record { same = λ p. same p.1; ends = λ more h. halts_neve
   cases Star = inl ((tt, None), refl)
   cases (Number n) = inl ((tt, Some n), refl)
 
-pub upper_star : {ts after rest : List Token} → StartsWith ts dot_dot after → StartsWith after star rest → IsRead upper_pieces (either dot_dot never) ts Star rest
-upper_star s t = read_as (upper_case _ (starts_first s)) (read_next (starts_read s) (star_read t))
+pub upper_star : {ts after rest : List Token} → StartsWith ts dot_dot after → StartsWith after star rest → Parses upper_pieces (either dot_dot never) ts Star rest
+upper_star s t = parsed_as (upper_case _ (starts_first s)) (parsed_next (starts_parsed s) (star_parsed t))
 
-pub upper_number : {ts after rest : List Token} {n at : ℕ} → StartsWith ts dot_dot after → StartsWithNumber after n at rest → IsRead upper_pieces (either dot_dot never) ts (Number n) rest
-upper_number s t = read_as (upper_case _ (starts_first s)) (read_next (starts_read s) (end_number t))
+pub upper_number : {ts after rest : List Token} {n at : ℕ} → StartsWith ts dot_dot after → StartsWithNumber after n at rest → Parses upper_pieces (either dot_dot never) ts (Number n) rest
+upper_number s t = parsed_as (upper_case _ (starts_first s)) (parsed_next (starts_parsed s) (end_number t))
 
 pub upper_stuck : {ts after : List Token} → StartsWith ts dot_dot after → (first_kind (token_kinds after) ≡ Some star → ⊥)
     → ((n : ℕ) → first_kind (token_kinds after) ≡ Some (number n) → ⊥) → IsStuck upper_pieces (either dot_dot never) ts (length after)
-upper_stuck s no_star no_number = stuck_as (upper_case _ (starts_first s)) (stuck_next (starts_read s) (end_stuck no_star no_number))
+upper_stuck s no_star no_number = stuck_as (upper_case _ (starts_first s)) (stuck_next (starts_parsed s) (end_stuck no_star no_number))
 
-pub upper_absent : {ts : List Token} → (first_kind (token_kinds ts) ≡ Some dot_dot → ⊥) → IsRead upper_pieces (either dot_dot never) ts Absent ts
-upper_absent {ts} no_dots = read_nothing Absent refl cases where
+pub upper_absent : {ts : List Token} → (first_kind (token_kinds ts) ≡ Some dot_dot → ⊥) → Parses upper_pieces (either dot_dot never) ts Absent ts
+upper_absent {ts} no_dots = parsed_nothing Absent refl cases where
   cases : (u : Upper) → (u ≡ Absent) ⊎ Begins upper_pieces (either dot_dot never) (first_kind (token_kinds ts)) u
   cases Absent = inl refl
   cases Star = inr (λ more h e. no_dots (sym e))
   cases (Number n) = inr (λ more h e. no_dots (sym e))
 
-range_case : (next : Option Kind) → IsCase (pair placed upper_pieces) (either dot_dot never) range_pieces (either dot_dot never) next (λ p. record { at = p.0.1; lo = p.0.0; hi = p.1 })
+range_case : (next : Option Kind) → IsCase (pair located upper_pieces) (either dot_dot never) range_pieces (either dot_dot never) next (λ p. record { at = p.0.1; lo = p.0.0; hi = p.1 })
 range_case next = record { same = λ p. refl; ends = λ more h. h; cases = λ r. inl (((r.lo, r.at), r.hi), refl) }
 
-pub range_read : {ts after rest : List Token} {n at : ℕ} {hi : Upper} → StartsWithNumber ts n at after → IsRead upper_pieces (either dot_dot never) after hi rest
-    → IsRead range_pieces (either dot_dot never) ts (record { at = at; lo = n; hi = hi }) rest
-range_read s h = read_as (range_case _) (read_next (placed_read s) h)
+pub range_parsed : {ts after rest : List Token} {n at : ℕ} {hi : Upper} → StartsWithNumber ts n at after → Parses upper_pieces (either dot_dot never) after hi rest
+    → Parses range_pieces (either dot_dot never) ts (record { at = at; lo = n; hi = hi }) rest
+range_parsed s h = parsed_as (range_case _) (parsed_next (located_parsed s) h)
 
 pub range_stuck : {ts : List Token} → ((n : ℕ) → first_kind (token_kinds ts) ≡ Some (number n) → ⊥) → IsStuck range_pieces (either dot_dot never) ts (length ts)
-range_stuck none = stuck_as (range_case _) (stuck_start upper_pieces Absent (placed_stuck none))
+range_stuck none = stuck_as (range_case _) (stuck_start upper_pieces Absent (located_stuck none))
 
-pub range_stuck_behind : {ts after : List Token} {n at left : ℕ} → StartsWithNumber ts n at after → IsStuck upper_pieces (either dot_dot never) after left
+pub range_stuck_after : {ts after : List Token} {n at left : ℕ} → StartsWithNumber ts n at after → IsStuck upper_pieces (either dot_dot never) after left
     → IsStuck range_pieces (either dot_dot never) ts left
-range_stuck_behind s h = stuck_as (range_case _) (stuck_next (placed_read s) h)
+range_stuck_after s h = stuck_as (range_case _) (stuck_next (located_parsed s) h)
 
 -- a range that may be left out, and the closing bracket
 abbrev bracketed : Option Range → List Piece
@@ -143,17 +143,17 @@ mult_case next = record { same = λ p. refl; ends = λ more h. h; cases = λ m. 
 pub mult_stuck : {ts : List Token} {left : ℕ} → IsStuck (single left_bracket) never ts left → IsStuck mult_pieces never ts left
 mult_stuck h = stuck_as (mult_case _) (stuck_start bracketed None h)
 
-pub mult_empty : {ts inner rest : List Token} → IsRead (single left_bracket) never ts tt inner → StartsWith inner right_bracket rest → IsRead mult_pieces never ts (record { range = None }) rest
-mult_empty h s = read_as (mult_case _) (read_next h (read_as (no_range_case _ (starts_first s)) (starts_read s)))
+pub mult_empty : {ts inner rest : List Token} → Parses (single left_bracket) never ts tt inner → StartsWith inner right_bracket rest → Parses mult_pieces never ts (record { range = None }) rest
+mult_empty h s = parsed_as (mult_case _) (parsed_next h (parsed_as (no_range_case _ (starts_first s)) (starts_parsed s)))
 
-pub mult_read : {ts inner after rest : List Token} {range : Range} → IsRead (single left_bracket) never ts tt inner → (first_kind (token_kinds inner) ≡ Some right_bracket → ⊥)
-    → IsRead range_pieces (either dot_dot never) inner range after → IsRead (single right_bracket) never after tt rest → IsRead mult_pieces never ts (record { range = Some range }) rest
-mult_read h none r k = read_as (mult_case _) (read_next h (read_as (some_range_case _ none) (read_then range_ends r k)))
+pub mult_parsed : {ts inner after rest : List Token} {range : Range} → Parses (single left_bracket) never ts tt inner → (first_kind (token_kinds inner) ≡ Some right_bracket → ⊥)
+    → Parses range_pieces (either dot_dot never) inner range after → Parses (single right_bracket) never after tt rest → Parses mult_pieces never ts (record { range = Some range }) rest
+mult_parsed h none r k = parsed_as (mult_case _) (parsed_next h (parsed_as (some_range_case _ none) (parsed_then range_ends r k)))
 
-pub mult_stuck_range : {ts inner : List Token} {left : ℕ} → IsRead (single left_bracket) never ts tt inner → (first_kind (token_kinds inner) ≡ Some right_bracket → ⊥)
+pub mult_stuck_range : {ts inner : List Token} {left : ℕ} → Parses (single left_bracket) never ts tt inner → (first_kind (token_kinds inner) ≡ Some right_bracket → ⊥)
     → IsStuck range_pieces (either dot_dot never) inner left → IsStuck mult_pieces never ts left
 mult_stuck_range h none k = stuck_as (mult_case _) (stuck_next h (stuck_as (some_range_case _ none) (stuck_first (single right_bracket) tt range_ends k)))
 
-pub mult_stuck_end : {ts inner after : List Token} {range : Range} {left : ℕ} → IsRead (single left_bracket) never ts tt inner → (first_kind (token_kinds inner) ≡ Some right_bracket → ⊥)
-    → IsRead range_pieces (either dot_dot never) inner range after → IsStuck (single right_bracket) never after left → IsStuck mult_pieces never ts left
+pub mult_stuck_end : {ts inner after : List Token} {range : Range} {left : ℕ} → Parses (single left_bracket) never ts tt inner → (first_kind (token_kinds inner) ≡ Some right_bracket → ⊥)
+    → Parses range_pieces (either dot_dot never) inner range after → IsStuck (single right_bracket) never after left → IsStuck mult_pieces never ts left
 mult_stuck_end h none r k = stuck_as (mult_case _) (stuck_next h (stuck_as (some_range_case _ none) (stuck_then range_ends r k)))

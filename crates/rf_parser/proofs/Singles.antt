@@ -1,21 +1,21 @@
--- What is read of one word or mark.
+-- What is parsed of one word or mark.
 use Rattle.std.proofs.Common.{◌≡◌, ◌⊎◌, Bool, true, false, List, [], ◌∷◌, ◌++◌, Option, None, Some, inl, inr, length, refl, sym, ap, ◌∙◌, subst}
 use Rattle.rf_lexer.specs.declared.token.Kind.{Kind}
 use Rattle.rf_lexer.specs.declared.token.Token.{Token}
 use Rattle.rf_syntax.specs.Parts.{flagged}
 use Rattle.rf_syntax.specs.Piece.{Piece, kinds_of}
 use Rattle.rf_parser.specs.Fit.{Fits, FitsPiece, token_kinds}
-use Rattle.rf_parser.specs.Parts.{single}
-use Rattle.rf_parser.specs.Reading.{Halts, IsRead, IsStuck, Shares, StartsWith, either, first_kind, never}
-use Rattle.rf_parser.proofs.Fronts.{halts_never}
-use Rattle.rf_parser.proofs.Wholes.{Begins, read_as, read_nothing, stuck_here}
+use Rattle.rf_parser.specs.Private.Parts.{single}
+use Rattle.rf_parser.specs.Private.Parsing.{Halts, Parses, IsStuck, Shares, StartsWith, either, first_kind, never}
+use Rattle.rf_parser.proofs.Prefixes.{halts_never}
+use Rattle.rf_parser.proofs.Wholes.{Begins, parsed_as, parsed_nothing, stuck_here}
 
--- one token is read as a part of one piece; another part of this kind with this place is the same
-pub read_token : {T : Type 0} {pieces : T → List Piece} {longer : Kind → Type 0} {ts rest : List Token} (token : Token) (piece : T → Piece) (part : T)
+-- one token is parsed as a part of one piece; another part of this kind with this offset is the same
+pub parsed_token : {T : Type 0} {pieces : T → List Piece} {longer : Kind → Type 0} {ts rest : List Token} (token : Token) (piece : T → Piece) (part : T)
     → ts ≡ token ∷ rest → ((t : T) → pieces t ≡ piece t ∷ []) → FitsPiece token (piece part)
-    → ((t : T) → FitsPiece token (piece t) → t ≡ part) → IsRead pieces longer ts part rest
-read_token {pieces = pieces} {rest = rest} token piece part e one fits same = record {
-  front = token ∷ [];
+    → ((t : T) → FitsPiece token (piece t) → t ≡ part) → Parses pieces longer ts part rest
+parsed_token {pieces = pieces} {rest = rest} token piece part e one fits same = record {
+  prefix = token ∷ [];
   joined = e;
   fits = subst (λ (ps : List Piece). Fits (token ∷ []) ps) (sym (one part)) (fits, tt);
   only = λ t more halts s. record {
@@ -27,8 +27,8 @@ read_token {pieces = pieces} {rest = rest} token piece part e one fits same = re
   one_kind : (p : Piece) (x : Token) (after more : List Kind) → Shares (x.kind ∷ []) after (p.kind ∷ more) → p.kind ∷ [] ≡ x.kind ∷ []
   one_kind p x after more s = let e = s.joined in let same : p.kind ≡ x.kind = cc in ap (λ (k : Kind). k ∷ []) same
 
-pub starts_read : {kind : Kind} {ts rest : List Token} → StartsWith ts kind rest → IsRead (single kind) never ts tt rest
-starts_read {kind} s = read_token s.token (λ u. record { kind = kind; at = None }) tt s.joined (λ u. refl) (record { kind = s.kinds; at = tt }) (λ u h. refl)
+pub starts_parsed : {kind : Kind} {ts rest : List Token} → StartsWith ts kind rest → Parses (single kind) never ts tt rest
+starts_parsed {kind} s = parsed_token s.token (λ u. record { kind = kind; at = None }) tt s.joined (λ u. refl) (record { kind = s.kinds; at = tt }) (λ u h. refl)
 
 -- the tokens begin with the kind
 pub starts_first : {kind : Kind} {ts rest : List Token} → StartsWith ts kind rest → first_kind (token_kinds ts) ≡ Some kind
@@ -47,12 +47,12 @@ flag_cases : (kind : Kind) (next : Option Kind) → next ≡ Some kind → (is_s
 flag_cases kind next e true = inl (tt, refl)
 flag_cases kind next e false = inr (λ more halts f. not_halted kind never more halts (f ∙ e))
 
-pub flag_is_set : (kind : Kind) {ts rest : List Token} → StartsWith ts kind rest → IsRead (λ b. flagged b kind) (either kind never) ts true rest
-flag_is_set kind {ts} s = read_as {make = λ (u : Unit {0}). true}
-    (record { same = λ u. refl; ends = λ more h. halts_never more; cases = flag_cases kind _ (starts_first s) }) (starts_read s)
+pub flag_is_set : (kind : Kind) {ts rest : List Token} → StartsWith ts kind rest → Parses (λ b. flagged b kind) (either kind never) ts true rest
+flag_is_set kind {ts} s = parsed_as {make = λ (u : Unit {0}). true}
+    (record { same = λ u. refl; ends = λ more h. halts_never more; cases = flag_cases kind _ (starts_first s) }) (starts_parsed s)
 
-pub flag_is_not_set : (kind : Kind) {ts : List Token} → (first_kind (token_kinds ts) ≡ Some kind → ⊥) → IsRead (λ b. flagged b kind) (either kind never) ts false ts
-flag_is_not_set kind {ts} no_kind = read_nothing false refl cases where
+pub flag_is_not_set : (kind : Kind) {ts : List Token} → (first_kind (token_kinds ts) ≡ Some kind → ⊥) → Parses (λ b. flagged b kind) (either kind never) ts false ts
+flag_is_not_set kind {ts} no_kind = parsed_nothing false refl cases where
   cases : (b : Bool) → (b ≡ false) ⊎ Begins (λ b. flagged b kind) (either kind never) (first_kind (token_kinds ts)) b
   cases true = inr (λ more halts e. no_kind (sym e))
   cases false = inl refl

@@ -1,4 +1,4 @@
--- What is read of lists of objects and bounds.
+-- What is parsed of lists of objects and bounds.
 use Rattle.std.proofs.Common.{◌≡◌, ◌⊎◌, Bool, true, false, List, [], Option, None, Some, inl, inr, refl, sym, ◌∙◌}
 use Rattle.rf_lexer.specs.declared.token.Kind.{Kind}
 use Rattle.rf_syntax.specs.declared.non_empty.NonEmpty.{NonEmpty}
@@ -10,13 +10,13 @@ use Rattle.rf_syntax.specs.declared.statement.Item.{Item}
 use Rattle.rf_syntax.specs.declared.statement.Statement.{Statement}
 use Rattle.rf_syntax.specs.declared.statement.Statement.TheVariants.{Class, Predicate, Declare, Multi, Scope, Assert}
 use Rattle.rf_syntax.specs.Name.{name_pieces}
-use Rattle.rf_syntax.specs.Parts.{optional_behind, separated}
+use Rattle.rf_syntax.specs.Parts.{optional_after, separated}
 use Rattle.rf_syntax.specs.Piece.{Piece}
 use Rattle.rf_syntax.specs.Range.{range_pieces}
 use Rattle.rf_syntax.specs.Statement.{bound_pieces, item_pieces, statement_pieces}
 use Rattle.rf_syntax.specs.Terminals.{comma, declare_word, dot, dot_dot, equal, multi_word, plus_equal, scope_word}
-use Rattle.rf_parser.specs.Parts.{bound_mark, list_to_dot, single}
-use Rattle.rf_parser.specs.Reading.{either, never}
+use Rattle.rf_parser.specs.Private.Parts.{bound_mark, list_to_dot, single}
+use Rattle.rf_parser.specs.Private.Parsing.{either, never}
 use Rattle.rf_parser.proofs.Beginnings.{begun}
 use Rattle.rf_parser.proofs.NameParts.{a_name}
 use Rattle.rf_parser.proofs.Wholes.{Apart, Begins, IsCase, pair}
@@ -25,7 +25,7 @@ pub a_range : Range
 a_range = record { at = 0; lo = 0; hi = Absent }
 
 pub item_case : (next : Option Kind)
-    → IsCase (pair name_pieces (optional_behind equal range_pieces)) (either equal (either dot_dot never)) item_pieces (either equal (either dot_dot never)) next (λ p. record { name = p.0; range = p.1 })
+    → IsCase (pair name_pieces (optional_after equal range_pieces)) (either equal (either dot_dot never)) item_pieces (either equal (either dot_dot never)) next (λ p. record { name = p.0; range = p.1 })
 item_case next = record { same = λ p. refl; ends = λ more h. h; cases = λ i. inl ((i.name, i.range), refl) }
 
 pub plus_equal_case : (next : Option Kind) → next ≡ Some plus_equal → IsCase (single plus_equal) never bound_mark never next (λ u. true)
@@ -48,8 +48,8 @@ module _ {T : Type 0} (pieces : T → List Piece) (longer : Kind → Type 0) whe
   pub list_case : (next : Option Kind) → IsCase (pair (separated comma pieces) (single dot)) never (list_to_dot pieces) never next (λ p. p.0)
   list_case next = record { same = λ p. refl; ends = λ more h. h; cases = λ ps. inl ((ps, tt), refl) }
 
-  pub dot_behind : (longer dot → ⊥) → Apart (either comma longer) (single dot) never
-  dot_behind none b more h = λ e. elim e [ inl same ↦ cc | inr other ↦ none other ]
+  pub dot_after : (longer dot → ⊥) → Apart (either comma longer) (single dot) never
+  dot_after none b more h = λ e. elim e [ inl same ↦ cc | inr other ↦ none other ]
 
 pub declare_case : (next : Option Kind) → next ≡ Some declare_word → IsCase (pair (single declare_word) (list_to_dot name_pieces)) never statement_pieces never next (λ p. Declare p.1)
 declare_case next e = record { same = λ p. refl; ends = λ more h. h; cases = cases } where

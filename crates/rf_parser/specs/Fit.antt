@@ -10,10 +10,10 @@ use Rattle.rf_syntax.specs.Statement.{pieces_of}
 abbrev pub token_kinds : List Token → List Kind
 token_kinds tokens = map (λ token. token.kind) tokens
 
--- the token is of the piece's kind, and begins at its place, where the piece has one
+-- the token is of the piece's kind, and begins at its offset, where the piece has one
 pub record FitsPiece (token : Token) (piece : Piece) : Type 0 where
   pub kind : token.kind ≡ piece.kind
-  pub at : IfSome piece.at (λ place. place ≡ token.start)
+  pub at : IfSome piece.at (λ offset. offset ≡ token.start)
 
 -- there are as many tokens as pieces, and each fits its piece
 abbrev pub Fits : List Token → List Piece → Type 0
@@ -22,6 +22,6 @@ Fits [] (piece ∷ pieces) = ⊥
 Fits (token ∷ tokens) [] = ⊥
 Fits (token ∷ tokens) (piece ∷ pieces) = FitsPiece token piece × Fits tokens pieces
 
--- the tokens are those of a text with this tree, which has the places of its tokens
+-- the tokens are those of a text with this tree, which has the offsets of its tokens
 abbrev pub IsTreeOf : List Token → Ast → Type 0
 IsTreeOf tokens ast = Fits tokens (pieces_of ast)

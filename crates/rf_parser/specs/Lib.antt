@@ -1,4 +1,3 @@
 pub mod Fit
-pub mod Parts
-pub mod Reading
+pub mod Private
 pub mod Refusal

@@ -5,6 +5,8 @@ use Rattle.rf_lexer.specs.declared.token.Token.{Token}
 use Rattle.rf_syntax.specs.declared.statement.Ast.{Ast}
 use Rattle.rf_syntax.specs.Statement.{spelling_of}
 use Rattle.rf_parser.specs.Fit.{token_kinds}
+use Rattle.rf_parser.specs.declared.error.ParseError.{ParseError}
+use Rattle.rf_parser.specs.declared.error.ParseError.TheVariants.{Unexpected}
 
 -- a text of the grammar begins with the kinds
 pub record BeginsText (kinds : List Kind) : Type 0 where
@@ -24,3 +26,7 @@ pub record IsFirstRefused (tokens : List Token) (k : ℕ) : Type 0 where
   pub begun : BeginsText (take k (token_kinds tokens))
   pub next : k < length tokens → BeginsText (take (k + 1) (token_kinds tokens)) → ⊥
   pub last : k ≡ length tokens → IsText (token_kinds tokens) → ⊥
+
+-- why tokens are not a text of the grammar
+abbrev pub ParseFault : List Token → ParseError → Type 0
+ParseFault tokens (Unexpected k) = IsFirstRefused tokens k

@@ -6,16 +6,12 @@ mod classes;
 mod error;
 mod lists;
 mod names;
+mod parsing;
+mod part;
 mod predicates;
 mod ranges;
-mod read;
-mod reading;
 mod statements;
-mod stop;
 mod terminals;
 
 pub use error::ParseError;
-pub use reading::parse;
-
-#[cfg(test)]
-mod tests;
+pub use parsing::parse;

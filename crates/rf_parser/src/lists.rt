@@ -1,12 +1,11 @@
 ghost use Rattle.std.specs.Prelude.{IfOk, IfErr};
-ghost use Rattle.rf_syntax.specs.Parts.{optional_behind, each_behind, separated};
+ghost use Rattle.rf_syntax.specs.Parts.{optional_after, each_after, separated};
 ghost use Rattle.rf_syntax.specs.Terminals.{comma, right_paren};
-ghost use Rattle.rf_parser.specs.Parts.{kind_of, listed_in_parens};
-ghost use Rattle.rf_parser.specs.Reading.{never, either, NeverBegins, IsRead, StopsAt, Adds};
+ghost use Rattle.rf_parser.specs.Private.Parts.{kind_of, listed_in_parens};
+ghost use Rattle.rf_parser.specs.Private.Parsing.{never, either, NeverBegins, Parses, StopsAt, Adds};
 
-use crate::read::Read;
-use crate::stop::Stop;
-use crate::terminals::{Terminal, behind, expect};
+use crate::part::{Part, Stop};
+use crate::terminals::{Terminal, accept, expect};
 use rf_lexer::{Mark, Token};
 use rf_syntax::NonEmpty;
 use rf_text::Items;
@@ -14,32 +13,32 @@ use std::alloc::Global;
 
 const COMMA: Terminal = Terminal::Mark(Mark::Comma);
 
-// A part behind the terminal, if that stands first.
-pub fn read_optional_behind<T: Read>(
+// A part after the terminal, if that is first.
+pub fn parse_optional_after<T: Part>(
     alloc: Global,
     terminal: Terminal,
     tokens: &[Token],
 ) -> Result<(Option<T>, &[Token]), Stop>
     ensures ok { IfOk result (λ p.
-        IsRead (optional_behind (kind_of terminal) T.pieces)
+        Parses (optional_after (kind_of terminal) T.pieces)
         (either (kind_of terminal) T.longer)
         tokens.now p.0 p.1.now) }
     ensures stop { IfErr result (λ e.
-        StopsAt (optional_behind (kind_of terminal) T.pieces)
+        StopsAt (optional_after (kind_of terminal) T.pieces)
         (either (kind_of terminal) T.longer)
         tokens.now e) }
 {
-    match behind(tokens, terminal) {
+    match accept(tokens, terminal) {
         Some(after) => {
-            let (part, rest) = T::read(alloc, after)?;
+            let (part, rest) = T::parse(alloc, after)?;
             Ok((Some(part), rest))
         }
         None => Ok((None, tokens)),
     }
 }
 
-// Appends the parts behind the terminal, as long as it stands first.
-fn push_each_behind<'t, T: Read>(
+// Appends the parts after the terminal, as long as it is first.
+fn push_each_after<'t, T: Part>(
     alloc: Global,
     terminal: Terminal,
     parts: &mut Items<T>,
@@ -47,15 +46,15 @@ fn push_each_behind<'t, T: Read>(
 ) -> Result<&'t [Token], Stop>
     requires { T.longer (kind_of terminal) → ⊥ }
     ensures ok { IfOk result (λ rest.
-        Adds (each_behind (kind_of terminal) T.pieces) (either (kind_of terminal) T.longer)
+        Adds (each_after (kind_of terminal) T.pieces) (either (kind_of terminal) T.longer)
         tokens.now parts.old parts.new rest.now) }
     ensures stop { IfErr result (λ e.
-        StopsAt (each_behind (kind_of terminal) T.pieces) (either (kind_of terminal) T.longer)
+        StopsAt (each_after (kind_of terminal) T.pieces) (either (kind_of terminal) T.longer)
         tokens.now e) }
 {
     let mut rest = tokens;
-    while let Some(after) = behind(rest, terminal) {
-        let (part, next) = T::read(alloc, after)?;
+    while let Some(after) = accept(rest, terminal) {
+        let (part, next) = T::parse(alloc, after)?;
         parts.push(part)?;
         rest = next;
     }
@@ -63,27 +62,27 @@ fn push_each_behind<'t, T: Read>(
 }
 
 // Parts with the terminal between them.
-pub fn read_separated<T: Read>(
+pub fn parse_separated<T: Part>(
     alloc: Global,
     terminal: Terminal,
     tokens: &[Token],
 ) -> Result<(NonEmpty<T>, &[Token]), Stop>
     requires { T.longer (kind_of terminal) → ⊥ }
     ensures ok { IfOk result (λ p.
-        IsRead (separated (kind_of terminal) T.pieces) (either (kind_of terminal) T.longer)
+        Parses (separated (kind_of terminal) T.pieces) (either (kind_of terminal) T.longer)
         tokens.now p.0 p.1.now) }
     ensures stop { IfErr result (λ e.
         StopsAt (separated (kind_of terminal) T.pieces) (either (kind_of terminal) T.longer)
         tokens.now e) }
 {
-    let (first, after) = T::read(alloc, tokens)?;
+    let (first, after) = T::parse(alloc, tokens)?;
     let mut rest = Items::from_vec(Vec::new(alloc));
-    let after = push_each_behind(alloc, terminal, &mut rest, after)?;
+    let after = push_each_after(alloc, terminal, &mut rest, after)?;
     Ok((NonEmpty { first, rest }, after))
 }
 
 // Parts with commas between them in parentheses. There may be none.
-pub fn read_in_parens<T: Read>(
+pub fn parse_in_parens<T: Part>(
     alloc: Global,
     tokens: &[Token],
 ) -> Result<(Items<T>, &[Token]), Stop>
@@ -91,17 +90,17 @@ pub fn read_in_parens<T: Read>(
     requires paren { T.longer right_paren → ⊥ }
     requires begins { NeverBegins T.pieces right_paren }
     ensures ok { IfOk result (λ p.
-        IsRead (listed_in_parens T.pieces) never tokens.now p.0 p.1.now) }
+        Parses (listed_in_parens T.pieces) never tokens.now p.0 p.1.now) }
     ensures stop { IfErr result (λ e. StopsAt (listed_in_parens T.pieces) never tokens.now e) }
 {
     let inner = expect(tokens, Terminal::Mark(Mark::LeftParen))?;
     let mut parts = Items::from_vec(Vec::new(alloc));
-    if let Some(rest) = behind(inner, Terminal::Mark(Mark::RightParen)) {
+    if let Some(rest) = accept(inner, Terminal::Mark(Mark::RightParen)) {
         return Ok((parts, rest));
     }
-    let (first, after) = T::read(alloc, inner)?;
+    let (first, after) = T::parse(alloc, inner)?;
     parts.push(first)?;
-    let after = push_each_behind(alloc, COMMA, &mut parts, after)?;
+    let after = push_each_after(alloc, COMMA, &mut parts, after)?;
     let rest = expect(after, Terminal::Mark(Mark::RightParen))?;
     Ok((parts, rest))
 }

@@ -3,25 +3,25 @@ ghost use Rattle.rf_syntax.specs.Name.{name_pieces, symbol_pieces};
 ghost use Rattle.rf_syntax.specs.Parts.{optional};
 ghost use Rattle.rf_syntax.specs.Terminals.{colon_colon};
 ghost use Rattle.rf_parser.specs.Fit.{Fits, token_kinds};
-ghost use Rattle.rf_parser.specs.Reading.{BeginsNoName, never, either, IsNameKind, IsRead, StopsAt};
+ghost use Rattle.rf_parser.specs.Private.Parsing.{BeginsNoName, never, either, IsNameKind, Parses, StopsAt};
 
-use crate::lists::read_optional_behind;
-use crate::read::Read;
-use crate::stop::Stop;
+use crate::lists::parse_optional_after;
+use crate::part::{Part, Stop};
 use crate::terminals::Terminal;
+use rf_failure::Failure;
 use rf_lexer::{Kind, Mark, Token};
 use rf_syntax::{Name, SymbolName};
 use std::alloc::{AllocError, Global};
 
-impl Read for Name {
+impl Part for Name {
     ghost pieces = { name_pieces };
 
     ghost longer = { never };
 
-    fn read(_: Global, tokens: &[Token]) -> Result<(Name, &[Token]), Stop> {
+    fn parse(_: Global, tokens: &[Token]) -> Result<(Name, &[Token]), Stop> {
         match first_name(tokens)? {
             Some((name, rest)) => Ok((name, rest)),
-            None => Err(Stop::Left(tokens.len())),
+            None => Err(Failure::Fault(tokens.len())),
         }
     }
 }
@@ -47,10 +47,10 @@ fn name_of(token: &Token) -> Result<Option<Name>, AllocError>
     }
 }
 
-// The name that stands first, if there is one, and the tokens behind it.
+// The name that is first, if there is one, and the tokens after it.
 fn first_name(tokens: &[Token]) -> Result<Option<(Name, &[Token])>, AllocError>
     ensures found { IfOk result (λ found.
-        IfSome found (λ p. IsRead name_pieces never tokens.now p.0 p.1.now)) }
+        IfSome found (λ p. Parses name_pieces never tokens.now p.0 p.1.now)) }
     ensures none { IfOk result (λ found. IfNone found (BeginsNoName (token_kinds tokens.now))) }
 {
     let Some((first, rest)) = tokens.split_first() else {
@@ -63,9 +63,9 @@ fn first_name(tokens: &[Token]) -> Result<Option<(Name, &[Token])>, AllocError>
 }
 
 // The same, where a name may be left out.
-pub fn read_optional_name(tokens: &[Token]) -> Result<(Option<Name>, &[Token]), Stop>
+pub fn parse_optional_name(tokens: &[Token]) -> Result<(Option<Name>, &[Token]), Stop>
     ensures ok { IfOk result (λ p.
-        IsRead (optional name_pieces) IsNameKind tokens.now p.0 p.1.now) }
+        Parses (optional name_pieces) IsNameKind tokens.now p.0 p.1.now) }
     ensures stop { IfErr result (λ e. StopsAt (optional name_pieces) IsNameKind tokens.now e) }
 {
     match first_name(tokens)? {
@@ -74,14 +74,14 @@ pub fn read_optional_name(tokens: &[Token]) -> Result<(Option<Name>, &[Token]), 
     }
 }
 
-impl Read for SymbolName {
+impl Part for SymbolName {
     ghost pieces = { symbol_pieces };
 
     ghost longer = { either colon_colon never };
 
-    fn read(alloc: Global, tokens: &[Token]) -> Result<(SymbolName, &[Token]), Stop> {
-        let (name, rest) = Name::read(alloc, tokens)?;
-        let (member, rest) = read_optional_behind(alloc, Terminal::Mark(Mark::ColonColon), rest)?;
+    fn parse(alloc: Global, tokens: &[Token]) -> Result<(SymbolName, &[Token]), Stop> {
+        let (name, rest) = Name::parse(alloc, tokens)?;
+        let (member, rest) = parse_optional_after(alloc, Terminal::Mark(Mark::ColonColon), rest)?;
         Ok((SymbolName { name, member }, rest))
     }
 }

@@ -3,26 +3,25 @@ ghost use Rattle.rf_syntax.specs.Predicate.{start_pieces, param_pieces, literal_
 ghost use Rattle.rf_syntax.specs.Statement.{statement_pieces};
 ghost use Rattle.rf_syntax.specs.Terminals.{pred_word, comma};
 ghost use Rattle.rf_parser.specs.Fit.{token_kinds};
-ghost use Rattle.rf_parser.specs.Parts.{call_tail_pieces, literal_tail_pieces, call_with, literal_with, BeginsPredicate};
-ghost use Rattle.rf_parser.specs.Reading.{first_kind, never, either, IsNameKind, IsRead, StopsAt};
+ghost use Rattle.rf_parser.specs.Private.Parts.{call_tail_pieces, literal_tail_pieces, call_with, literal_with, BeginsPredicate};
+ghost use Rattle.rf_parser.specs.Private.Parsing.{first_kind, never, either, IsNameKind, Parses, StopsAt};
 
-use crate::lists::{read_in_parens, read_optional_behind, read_separated};
-use crate::names::read_optional_name;
-use crate::read::Read;
-use crate::stop::Stop;
-use crate::terminals::{Terminal, behind, expect, flag};
+use crate::lists::{parse_in_parens, parse_optional_after, parse_separated};
+use crate::names::parse_optional_name;
+use crate::part::{Part, Stop};
+use crate::terminals::{Terminal, accept, expect, flag};
 use rf_lexer::{Keyword, Mark, Token};
 use rf_syntax::{BodyLiteral, Name, NonEmpty, Param, PredicateWord, Statement, SymbolName};
 use rf_text::Items;
 use std::alloc::Global;
 
-impl Read for PredicateWord {
+impl Part for PredicateWord {
     ghost pieces = { start_pieces };
 
     ghost longer = { either pred_word never };
 
-    fn read(_: Global, tokens: &[Token]) -> Result<(PredicateWord, &[Token]), Stop> {
-        let Some(after) = behind(tokens, Terminal::Word(Keyword::Error)) else {
+    fn parse(_: Global, tokens: &[Token]) -> Result<(PredicateWord, &[Token]), Stop> {
+        let Some(after) = accept(tokens, Terminal::Word(Keyword::Error)) else {
             let rest = expect(tokens, Terminal::Word(Keyword::Pred))?;
             return Ok((PredicateWord::Pred, rest));
         };
@@ -35,14 +34,14 @@ impl Read for PredicateWord {
     }
 }
 
-impl Read for Param {
+impl Part for Param {
     ghost pieces = { param_pieces };
 
     ghost longer = { IsNameKind };
 
-    fn read(alloc: Global, tokens: &[Token]) -> Result<(Param, &[Token]), Stop> {
-        let (first, rest) = Name::read(alloc, tokens)?;
-        let (second, rest) = read_optional_name(rest)?;
+    fn parse(alloc: Global, tokens: &[Token]) -> Result<(Param, &[Token]), Stop> {
+        let (first, rest) = Name::parse(alloc, tokens)?;
+        let (second, rest) = parse_optional_name(rest)?;
         match second {
             Some(name) => Ok((
                 Param {
@@ -62,7 +61,7 @@ impl Read for Param {
     }
 }
 
-// What stands in a call behind the first name.
+// What follows the first name of a call.
 #[derive(Drop)]
 struct CallTail {
     member: Option<Name>,
@@ -70,15 +69,15 @@ struct CallTail {
     args: Items<Name>,
 }
 
-impl Read for CallTail {
+impl Part for CallTail {
     ghost pieces = { call_tail_pieces };
 
     ghost longer = { never };
 
-    fn read(alloc: Global, tokens: &[Token]) -> Result<(CallTail, &[Token]), Stop> {
-        let (member, rest) = read_optional_behind(alloc, Terminal::Mark(Mark::ColonColon), tokens)?;
+    fn parse(alloc: Global, tokens: &[Token]) -> Result<(CallTail, &[Token]), Stop> {
+        let (member, rest) = parse_optional_after(alloc, Terminal::Mark(Mark::ColonColon), tokens)?;
         let (closure, rest) = flag(rest, Terminal::Mark(Mark::Plus));
-        let (args, rest) = read_in_parens(alloc, rest)?;
+        let (args, rest) = parse_in_parens(alloc, rest)?;
         let tail = CallTail {
             member,
             closure,
@@ -88,7 +87,7 @@ impl Read for CallTail {
     }
 }
 
-// What stands in a literal without `!` behind the first name.
+// What follows the first name of a literal without `!`.
 #[derive(Drop)]
 enum LiteralTail {
     Same(Name),
@@ -96,21 +95,21 @@ enum LiteralTail {
     Call(CallTail),
 }
 
-impl Read for LiteralTail {
+impl Part for LiteralTail {
     ghost pieces = { literal_tail_pieces };
 
     ghost longer = { never };
 
-    fn read(alloc: Global, tokens: &[Token]) -> Result<(LiteralTail, &[Token]), Stop> {
-        if let Some(after) = behind(tokens, Terminal::Mark(Mark::EqualEqual)) {
-            let (right, rest) = Name::read(alloc, after)?;
+    fn parse(alloc: Global, tokens: &[Token]) -> Result<(LiteralTail, &[Token]), Stop> {
+        if let Some(after) = accept(tokens, Terminal::Mark(Mark::EqualEqual)) {
+            let (right, rest) = Name::parse(alloc, after)?;
             return Ok((LiteralTail::Same(right), rest));
         }
-        if let Some(after) = behind(tokens, Terminal::Mark(Mark::BangEqual)) {
-            let (right, rest) = Name::read(alloc, after)?;
+        if let Some(after) = accept(tokens, Terminal::Mark(Mark::BangEqual)) {
+            let (right, rest) = Name::parse(alloc, after)?;
             return Ok((LiteralTail::Differ(right), rest));
         }
-        let (call, rest) = CallTail::read(alloc, tokens)?;
+        let (call, rest) = CallTail::parse(alloc, tokens)?;
         Ok((LiteralTail::Call(call), rest))
     }
 }
@@ -141,43 +140,43 @@ fn literal_of(left: Name, tail: LiteralTail) -> BodyLiteral
     }
 }
 
-impl Read for BodyLiteral {
+impl Part for BodyLiteral {
     ghost pieces = { literal_pieces };
 
     ghost longer = { never };
 
-    fn read(alloc: Global, tokens: &[Token]) -> Result<(BodyLiteral, &[Token]), Stop> {
-        if let Some(after) = behind(tokens, Terminal::Mark(Mark::Bang)) {
-            let (name, rest) = Name::read(alloc, after)?;
-            let (tail, rest) = CallTail::read(alloc, rest)?;
+    fn parse(alloc: Global, tokens: &[Token]) -> Result<(BodyLiteral, &[Token]), Stop> {
+        if let Some(after) = accept(tokens, Terminal::Mark(Mark::Bang)) {
+            let (name, rest) = Name::parse(alloc, after)?;
+            let (tail, rest) = CallTail::parse(alloc, rest)?;
             return Ok((call_of(true, name, tail), rest));
         }
-        let (left, rest) = Name::read(alloc, tokens)?;
-        let (tail, rest) = LiteralTail::read(alloc, rest)?;
+        let (left, rest) = Name::parse(alloc, tokens)?;
+        let (tail, rest) = LiteralTail::parse(alloc, rest)?;
         Ok((literal_of(left, tail), rest))
     }
 }
 
-impl Read for NonEmpty<BodyLiteral> {
+impl Part for NonEmpty<BodyLiteral> {
     ghost pieces = { clause_pieces };
 
     ghost longer = { either comma never };
 
-    fn read(alloc: Global, tokens: &[Token]) -> Result<(NonEmpty<BodyLiteral>, &[Token]), Stop> {
-        read_separated(alloc, Terminal::Mark(Mark::Comma), tokens)
+    fn parse(alloc: Global, tokens: &[Token]) -> Result<(NonEmpty<BodyLiteral>, &[Token]), Stop> {
+        parse_separated(alloc, Terminal::Mark(Mark::Comma), tokens)
     }
 }
 
-pub fn read_predicate(alloc: Global, tokens: &[Token]) -> Result<(Statement, &[Token]), Stop>
+pub fn parse_predicate(alloc: Global, tokens: &[Token]) -> Result<(Statement, &[Token]), Stop>
     requires { BeginsPredicate (first_kind (token_kinds tokens.now)) }
-    ensures ok { IfOk result (λ p. IsRead statement_pieces never tokens.now p.0 p.1.now) }
+    ensures ok { IfOk result (λ p. Parses statement_pieces never tokens.now p.0 p.1.now) }
     ensures stop { IfErr result (λ e. StopsAt statement_pieces never tokens.now e) }
 {
-    let (start, rest) = PredicateWord::read(alloc, tokens)?;
-    let (name, rest) = Name::read(alloc, rest)?;
-    let (params, rest) = read_in_parens(alloc, rest)?;
+    let (start, rest) = PredicateWord::parse(alloc, tokens)?;
+    let (name, rest) = Name::parse(alloc, rest)?;
+    let (params, rest) = parse_in_parens(alloc, rest)?;
     let rest = expect(rest, Terminal::Mark(Mark::Iff))?;
-    let (clauses, rest) = read_separated(alloc, Terminal::Mark(Mark::Semicolon), rest)?;
+    let (clauses, rest) = parse_separated(alloc, Terminal::Mark(Mark::Semicolon), rest)?;
     let rest = expect(rest, Terminal::Mark(Mark::Dot))?;
     let predicate = Statement::Predicate {
         start,

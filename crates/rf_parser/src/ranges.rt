@@ -2,17 +2,17 @@ ghost use Rattle.std.specs.Prelude.{◌≡◌, ℕ, Some, IfSome, IfNone};
 ghost use Rattle.rf_syntax.specs.Range.{upper_pieces, range_pieces, mult_pieces};
 ghost use Rattle.rf_syntax.specs.Terminals.{number, dot_dot};
 ghost use Rattle.rf_parser.specs.Fit.{token_kinds};
-ghost use Rattle.rf_parser.specs.Reading.{first_kind, never, either, StartsWithNumber};
+ghost use Rattle.rf_parser.specs.Private.Parsing.{first_kind, never, either, StartsWithNumber};
 
-use crate::read::Read;
-use crate::stop::Stop;
-use crate::terminals::{Terminal, behind, expect};
+use crate::part::{Part, Stop};
+use crate::terminals::{Terminal, accept, expect};
+use rf_failure::Failure;
 use rf_lexer::{Kind, Mark, Token};
 use rf_syntax::{Mult, Range, Upper};
 use std::alloc::Global;
 
-// The number that stands first, if there is one, its place, and the tokens behind it.
-fn read_number(tokens: &[Token]) -> Option<(u32, u64, &[Token])>
+// The number that is first, if there is one, its offset, and the tokens after it.
+fn first_number(tokens: &[Token]) -> Option<(u32, u64, &[Token])>
     ensures found { IfSome result (λ p. StartsWithNumber tokens.now p.0 p.1 p.2.now) }
     ensures none { IfNone result (
         (n : ℕ) → first_kind (token_kinds tokens.now) ≡ Some (number n) → ⊥) }
@@ -30,50 +30,50 @@ fn read_number(tokens: &[Token]) -> Option<(u32, u64, &[Token])>
     }
 }
 
-impl Read for Upper {
+impl Part for Upper {
     ghost pieces = { upper_pieces };
 
     ghost longer = { either dot_dot never };
 
-    fn read(_: Global, tokens: &[Token]) -> Result<(Upper, &[Token]), Stop> {
-        let Some(after) = behind(tokens, Terminal::Mark(Mark::DotDot)) else {
+    fn parse(_: Global, tokens: &[Token]) -> Result<(Upper, &[Token]), Stop> {
+        let Some(after) = accept(tokens, Terminal::Mark(Mark::DotDot)) else {
             return Ok((Upper::Absent, tokens));
         };
-        if let Some(rest) = behind(after, Terminal::Mark(Mark::Star)) {
+        if let Some(rest) = accept(after, Terminal::Mark(Mark::Star)) {
             return Ok((Upper::Star, rest));
         }
-        let Some((number, _, rest)) = read_number(after) else {
-            return Err(Stop::Left(after.len()));
+        let Some((number, _, rest)) = first_number(after) else {
+            return Err(Failure::Fault(after.len()));
         };
         Ok((Upper::Number(number), rest))
     }
 }
 
-impl Read for Range {
+impl Part for Range {
     ghost pieces = { range_pieces };
 
     ghost longer = { either dot_dot never };
 
-    fn read(alloc: Global, tokens: &[Token]) -> Result<(Range, &[Token]), Stop> {
-        let Some((lo, at, rest)) = read_number(tokens) else {
-            return Err(Stop::Left(tokens.len()));
+    fn parse(alloc: Global, tokens: &[Token]) -> Result<(Range, &[Token]), Stop> {
+        let Some((lo, at, rest)) = first_number(tokens) else {
+            return Err(Failure::Fault(tokens.len()));
         };
-        let (hi, rest) = Upper::read(alloc, rest)?;
+        let (hi, rest) = Upper::parse(alloc, rest)?;
         Ok((Range { at, lo, hi }, rest))
     }
 }
 
-impl Read for Mult {
+impl Part for Mult {
     ghost pieces = { mult_pieces };
 
     ghost longer = { never };
 
-    fn read(alloc: Global, tokens: &[Token]) -> Result<(Mult, &[Token]), Stop> {
+    fn parse(alloc: Global, tokens: &[Token]) -> Result<(Mult, &[Token]), Stop> {
         let inner = expect(tokens, Terminal::Mark(Mark::LeftBracket))?;
-        if let Some(rest) = behind(inner, Terminal::Mark(Mark::RightBracket)) {
+        if let Some(rest) = accept(inner, Terminal::Mark(Mark::RightBracket)) {
             return Ok((Mult { range: None }, rest));
         }
-        let (range, rest) = Range::read(alloc, inner)?;
+        let (range, rest) = Range::parse(alloc, inner)?;
         let rest = expect(rest, Terminal::Mark(Mark::RightBracket))?;
         Ok((Mult { range: Some(range) }, rest))
     }

@@ -1,12 +1,13 @@
-//! Words and marks, which a text may have in one place only or may leave out.
+//! Words and marks, which a text must have there or may leave out.
 
 ghost use Rattle.std.specs.Prelude.{◌≡◌, ◌↔◌, Some, IfSome, IfNone, IfOk, IfErr, IsTrue};
 ghost use Rattle.rf_syntax.specs.Parts.{flagged};
 ghost use Rattle.rf_parser.specs.Fit.{token_kinds};
-ghost use Rattle.rf_parser.specs.Parts.{kind_of, single};
-ghost use Rattle.rf_parser.specs.Reading.{first_kind, never, either, StartsWith, IsRead, StopsAt};
+ghost use Rattle.rf_parser.specs.Private.Parts.{kind_of, single};
+ghost use Rattle.rf_parser.specs.Private.Parsing.{first_kind, never, either, StartsWith, Parses, StopsAt};
 
-use crate::stop::Stop;
+use crate::part::Stop;
+use rf_failure::Failure;
 use rf_lexer::{Keyword, Kind, Mark, Token};
 
 #[derive(Clone, Copy)]
@@ -27,8 +28,8 @@ impl Terminal {
     }
 }
 
-// The tokens behind the terminal, if it stands first.
-pub fn behind(tokens: &[Token], terminal: Terminal) -> Option<&[Token]>
+// The tokens after the terminal, if it is first.
+pub fn accept(tokens: &[Token], terminal: Terminal) -> Option<&[Token]>
     ensures found { IfSome result (λ rest. StartsWith tokens.now (kind_of terminal) rest.now) }
     ensures none { IfNone result (
         first_kind (token_kinds tokens.now) ≡ Some (kind_of terminal) → ⊥) }
@@ -42,27 +43,27 @@ pub fn behind(tokens: &[Token], terminal: Terminal) -> Option<&[Token]>
 pub fn begins_with(tokens: &[Token], terminal: Terminal) -> bool
     ensures { IsTrue result ↔ (first_kind (token_kinds tokens.now) ≡ Some (kind_of terminal)) }
 {
-    behind(tokens, terminal).is_some()
+    accept(tokens, terminal).is_some()
 }
 
-// The tokens behind the terminal, which has to stand first.
+// The tokens after the terminal, which has to be first.
 pub fn expect(tokens: &[Token], terminal: Terminal) -> Result<&[Token], Stop>
     ensures ok { IfOk result (λ rest.
-        IsRead (single (kind_of terminal)) never tokens.now tt rest.now) }
+        Parses (single (kind_of terminal)) never tokens.now tt rest.now) }
     ensures stop { IfErr result (λ e. StopsAt (single (kind_of terminal)) never tokens.now e) }
 {
-    match behind(tokens, terminal) {
+    match accept(tokens, terminal) {
         Some(rest) => Ok(rest),
-        None => Err(Stop::Left(tokens.len())),
+        None => Err(Failure::Fault(tokens.len())),
     }
 }
 
-// Whether the terminal stands first, and the tokens behind it.
+// Whether the terminal is first, and the tokens after it.
 pub fn flag(tokens: &[Token], terminal: Terminal) -> (bool, &[Token])
-    ensures { IsRead (λ is_set. flagged is_set (kind_of terminal)) (either (kind_of terminal) never)
+    ensures { Parses (λ is_set. flagged is_set (kind_of terminal)) (either (kind_of terminal) never)
         tokens.now result.0 result.1.now }
 {
-    match behind(tokens, terminal) {
+    match accept(tokens, terminal) {
         Some(rest) => (true, rest),
         None => (false, tokens),
     }

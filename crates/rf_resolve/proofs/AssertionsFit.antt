@@ -25,13 +25,13 @@ use Rattle.rf_syntax.specs.declared.statement.Statement.{Statement}
 use Rattle.rf_syntax.specs.declared.statement.Statement.TheVariants.{Assert, Class as ClassOf, Declare, Multi, Predicate as PredicateOf, Scope}
 use Rattle.rf_limits.specs.declared.kind.LimitKind.TheVariants.{Assertions}
 use Rattle.rf_names.specs.Declarations.{AssertDecl, ClassDecl, Declared, asserted_atom, asserted_truth, assertions_in, declared_in, mentions_in, object_alone, object_in}
-use Rattle.rf_resolve.specs.Fault.{Passes}
+use Rattle.rf_resolve.specs.Passes.{Passes}
 use Rattle.rf_names.specs.LookUp.{assertion_symbols, can_be_closed, class_decl_at, class_named, first_of_each, is_text_of, literal_symbols, named_objects, no_class_decl, no_predicate_decl, object_named, own_symbols, parameters_of, reads, sense_of, symbols_named, symbols_or_members, the_number, the_symbol}
-use Rattle.rf_name_rules.specs.Places.{ambiguous_symbol, assertion_arity, is_abstract_class, is_ambiguous, last_place, literal_arity, unknown_arg, unknown_assertion, unknown_class, unknown_object, unknown_symbol}
-use Rattle.rf_names.specs.LeastPlace.{place_if, places_in_literals}
+use Rattle.rf_name_rules.specs.RuleOffsets.{ambiguous_symbol, assertion_arity, is_abstract_class, is_ambiguous, last_offset, literal_arity, unknown_arg, unknown_assertion, unknown_class, unknown_object, unknown_symbol}
+use Rattle.rf_names.specs.Offsets.{offset_if, offsets_in_literals}
 use Rattle.rf_resolve.specs.Resolved.{object_or_new, resolved_arg, resolved_assertion, resolved_class, resolved_object, resolved_predicate, resolved_reference}
 use Rattle.rf_resolve.proofs.ClassesFit.{class_count}
-use Rattle.rf_resolve.proofs.ClearPlaces.{few-from_first_past, nil-each, nil-parts, nil-right, place_if-nil}
+use Rattle.rf_resolve.proofs.ClearOffsets.{few-from_first_past, nil-each, nil-parts, nil-right, offset_if-nil}
 use Rattle.rf_resolve.proofs.NumberFacts.{class_below, some_number}
 use Rattle.rf_resolve.proofs.PairFacts.{All-back, All-flat_map, All-front, get_or-map_any}
 use Rattle.rf_resolve.proofs.ReferencesFit.{reference_count}
@@ -109,7 +109,7 @@ read_first text seen (n ∷ ns) fresh e = elim (cases_Bool (is_text_of seen n)) 
   ])
 ]
 
--- a name that some name reads as has a place
+-- a name that some name reads as has a position
 position_there : {X : Type 0} (p : X → Bool) (xs : List X) → list_any p xs ≡ true → position_or_len p xs < length xs
 position_there p [] e = absurd (true≢false (sym e))
 position_there p (x ∷ xs) e = elim (cases_Bool (p x)) [
@@ -201,7 +201,7 @@ module _ (d : Declared) where
       ap (λ b. the_number (if b then Some (position_or_len (reads name.text) (named_objects d)) else None)) test in
       let long = objects_long in omega arith
   object_there name (Some member) none all =
-      let rest : List ℕ = if reads (codes "new") member then place_if (is_abstract_class d (class_named d name.text)) name.at else member.at ∷ [] in
+      let rest : List ℕ = if reads (codes "new") member then offset_if (is_abstract_class d (class_named d name.text)) name.at else member.at ∷ [] in
       let parts = nil-parts (unknown_class d name) rest none in
       let there = known_class d name parts.0 in
       let c : ℕ = the_number (class_named d name.text) in
@@ -212,8 +212,8 @@ module _ (d : Declared) where
       (not_abstract (class_named d name.text) c is concrete) in
       let long = objects_long in omega arith
     where
-      new_only : (a b : Bool) (at at_member : ℕ) → (if a then place_if b at else at_member ∷ []) ≡ [] → b ≡ false
-      new_only true b at at_member e = place_if-nil b at e
+      new_only : (a b : Bool) (at at_member : ℕ) → (if a then offset_if b at else at_member ∷ []) ≡ [] → b ≡ false
+      new_only true b at at_member e = offset_if-nil b at e
       new_only false b at at_member e = let never : ⊥ = cc in absurd never
 
   arg_there : (arg : Arg) → unknown_arg d arg ≡ [] →
@@ -236,7 +236,7 @@ module _ (d : Declared) where
       let symbols : List Symbol = assertion_symbols d symbol in
       let parts = nil-parts (unknown_symbol d (sense_of symbols) symbol.name symbol.member) (flat_map (unknown_arg d) a.atom.args) unknown in
       let one = one-from_clear (sense_of symbols) (known-from_nil d (sense_of symbols) symbol.name symbol.member parts.0)
-      (place_if-nil (is_ambiguous (sense_of symbols)) (last_place symbol.name symbol.member) ambiguous) in
+      (offset_if-nil (is_ambiguous (sense_of symbols)) (last_offset symbol.name symbol.member) ambiguous) in
       let said = one-from_sense (may_say d) symbols one.0 one.1 (symbols_said d symbol.name symbol.member) in
       let fits = and_parts (length a.atom.args == parameters_of d one.0) (not false || can_be_closed d one.0)
       (fits-from_nil d (sense_of symbols) one.0 false (length a.atom.args) symbol.name.at one.1 arity) in
@@ -269,7 +269,7 @@ module _ (ast : Ast) where
       ++ map new_object (concrete_numbers 0 (map (resolved_class own) own.classes)))
       (map (resolved_assertion own) own.assertions)
   assertions_fit passes =
-      let arities = nil-right (places_in_literals (λ n. literal_arity own) own.predicates)
+      let arities = nil-right (offsets_in_literals (λ n. literal_arity own) own.predicates)
       (flat_map (assertion_arity own) own.assertions) passes.arities in
       record {
         few = (let long = length-map own.assertions (resolved_assertion own) in

@@ -12,7 +12,7 @@ use Rattle.rf_resolve.specs.Resolved.{class_literal, class_literals, resolved_li
 use Rattle.rf_names.proofs.MapLemmas.{map_one_more}
 use Rattle.rf_names.proofs.VariableLemmas.{with_variables-append, with_variables-longer}
 
--- the variables behind one literal more
+-- the variables after one literal more
 names-snoc : (known : List Name) (ls : List BodyLiteral) (l : BodyLiteral) →
     with_variables known (clause_names (ls ++ l ∷ []))
     ≡ with_variables (with_variables known (clause_names ls)) (literal_names l)
@@ -54,7 +54,7 @@ resolved_literals_more f d known xs i x below is =
     ap (resolved_literals d known) (map_one_more f xs i x below is)
     ∙ resolved-append d known (map f (take i xs)) (f x ∷ [])
 
--- behind some of the literals there are no more variables than behind all
+-- after some of the literals there are no more variables than after all
 names-part : (known : List Name) (ls ms : List BodyLiteral) →
     length (with_variables known (clause_names ls)) ≤ length
     (with_variables known (clause_names (ls ++ ms)))

@@ -21,11 +21,11 @@ use Rattle.rf_syntax.specs.declared.predicate.Param.{Param}
 use Rattle.rf_names.specs.Bodies.{called_by, calls_directly, is_called_from, leads_to, literal_names, param_names, predicate_of, with_variables}
 use Rattle.rf_names.specs.LookUp.{is_number, literal_symbols, no_predicate_decl, predicate_decl_at, sense_of, the_symbol}
 use Rattle.rf_names.specs.Declarations.{Declared, PredicateDecl}
-use Rattle.rf_clause_rules.specs.ClausePlaces.{leads_back_to, recursive_literal, recursive_places}
+use Rattle.rf_clause_rules.specs.ClauseOffsets.{leads_back_to, recursive_literal, recursive_offsets}
 use Rattle.rf_resolve.specs.Resolved.{all_literals, class_literal, class_literals, resolved_clause, resolved_literal, resolved_literals, resolved_predicate}
 use Rattle.rf_names.specs.declared.sense.Sense.{Sense}
 use Rattle.rf_names.specs.declared.sense.Sense.TheVariants.{Nothing, One, Several}
-use Rattle.rf_resolve.proofs.ClearPlaces.{place_if-nil, places_in_literals-each}
+use Rattle.rf_resolve.proofs.ClearOffsets.{offset_if-nil, offsets_in_literals-each}
 
 -- some item of a list passes where the item that it was made of does
 any-map : {X Y : Type 0} (p : Y → Bool) (f : X → Y) (xs : List X) → list_any p (map f xs) ≡ true → list_any (λ x. p (f x)) xs ≡ true
@@ -122,22 +122,22 @@ module _ (d : Declared) where
   literal_leads : (p q : ℕ) (l : BodyLiteral) → recursive_literal d p l ≡ [] → is_number q (called_by d l) ≡ true → leads_to d q p ≡ true → ⊥
   literal_leads p q (Call negated symbol closure args) none here leads =
       let called : Option ℕ = called_by d (Call negated symbol closure args) in
-      both_ways (leads_back_to d p called) (place_if-nil (leads_back_to d p called) symbol.name.at none)
+      both_ways (leads_back_to d p called) (offset_if-nil (leads_back_to d p called) symbol.name.at none)
       (leads_back-from_called p q called here leads)
   literal_leads p q (Same a b) none here leads = true≢false (sym here)
   literal_leads p q (Differ a b) none here leads = true≢false (sym here)
 
-  call_leads : recursive_places d ≡ [] → (p q : ℕ) → p < length d.predicates → calls_directly d p q ≡ true → leads_to d q p ≡ true → ⊥
+  call_leads : recursive_offsets d ≡ [] → (p q : ℕ) → p < length d.predicates → calls_directly d p q ≡ true → leads_to d q p ≡ true → ⊥
   call_leads none p q l h leads =
       let clause = Any-from_list_any (λ c. list_any (λ l. is_number q (called_by d l)) c) (predicate_decl_at d p).clauses h in
       let literal = Any-from_list_any (λ l. is_number q (called_by d l)) clause.1 clause.4 in
-      let each = places_in_literals-each (recursive_literal d) d.predicates none p no_predicate_decl l clause.0 clause.1 clause.2 in
+      let each = offsets_in_literals-each (recursive_literal d) d.predicates none p no_predicate_decl l clause.0 clause.1 clause.2 in
       let in_clause : All (λ l. recursive_literal d p l ≡ []) clause.1 =
       subst (λ c. All (λ l. recursive_literal d p l ≡ []) c) clause.3 each in
       literal_leads p q literal.1
       (subst (λ l. recursive_literal d p l ≡ []) literal.3 (in_clause literal.0 literal.1 literal.2)) literal.4 leads
 
-  pub calls-no_cycle : recursive_places d ≡ [] → HasNoCycle (calls predicates_made) (length predicates_made)
+  pub calls-no_cycle : recursive_offsets d ≡ [] → HasNoCycle (calls predicates_made) (length predicates_made)
   calls-no_cycle none x l ([], w) =
       let count = length-map d.predicates (resolved_predicate d) in
       call_leads none x x (omega arith) (calls_directly-from_calls x x w)

@@ -17,13 +17,13 @@ use Rattle.rf_syntax.specs.declared.statement.Statement.{Statement}
 use Rattle.rf_syntax.specs.declared.statement.Statement.TheVariants.{Assert, Class as ClassOf, Declare, Multi, Predicate as PredicateOf, Scope}
 use Rattle.rf_limits.specs.declared.kind.LimitKind.TheVariants.{Classes}
 use Rattle.rf_names.specs.Declarations.{ClassDecl, Declared, classes_in, declared_in, names_in}
-use Rattle.rf_resolve.specs.Fault.{Passes}
+use Rattle.rf_resolve.specs.Passes.{Passes}
 use Rattle.rf_names.specs.LookUp.{class_decl_at, class_named, extends_directly, extends_somehow, is_number, no_class_decl, the_number}
-use Rattle.rf_name_rules.specs.Places.{cycles_from, kept_names}
-use Rattle.rf_names.specs.LeastPlace.{place_if}
+use Rattle.rf_name_rules.specs.RuleOffsets.{cycles_from, reserved_names}
+use Rattle.rf_names.specs.Offsets.{offset_if}
 use Rattle.rf_resolve.specs.Readable.{IsReadableDeclared}
 use Rattle.rf_resolve.specs.Resolved.{resolved_class}
-use Rattle.rf_resolve.proofs.ClearPlaces.{nil-parts, few-from_first_past, place_if-nil}
+use Rattle.rf_resolve.proofs.ClearOffsets.{nil-parts, few-from_first_past, offset_if-nil}
 use Rattle.rf_resolve.proofs.FreshNames.{AreFresh, AreFresh-apart, AreFresh-behind, AreFresh-from_repeated}
 use Rattle.rf_resolve.proofs.NumberFacts.{class_below, some_number}
 use Rattle.rf_resolve.proofs.PairFacts.{AllPairs-map, AllPairs-unmap, get_or-map_any}
@@ -82,11 +82,11 @@ module _ (d : Declared) where
       extends_somehow d (n + k) (n + k) ≡ false
   no_cycles_from n [] e k l = absurd (omega arith)
   no_cycles_from n (c ∷ cs) e zero l =
-      let parts = nil-parts (place_if (extends_somehow d n n) c.name.at) (cycles_from d (suc n) cs) e in
+      let parts = nil-parts (offset_if (extends_somehow d n n) c.name.at) (cycles_from d (suc n) cs) e in
       let same : n ≡ n + 0 = omega arith in
-      subst (λ m. extends_somehow d m m ≡ false) same (place_if-nil (extends_somehow d n n) c.name.at parts.0)
+      subst (λ m. extends_somehow d m m ≡ false) same (offset_if-nil (extends_somehow d n n) c.name.at parts.0)
   no_cycles_from n (c ∷ cs) e (suc k) l =
-      let parts = nil-parts (place_if (extends_somehow d n n) c.name.at) (cycles_from d (suc n) cs) e in
+      let parts = nil-parts (offset_if (extends_somehow d n n) c.name.at) (cycles_from d (suc n) cs) e in
       let same : suc n + k ≡ n + suc k = omega arith in
       subst (λ m. extends_somehow d m m ≡ false) same (no_cycles_from (suc n) cs parts.1 k (omega arith))
 
@@ -114,8 +114,8 @@ module _ (ast : Ast) (passes : Passes (declared_in ast)) where
   apart : AllPairs (λ c e. c.name ≢ e.name) (map (resolved_class d) d.classes)
   apart = AllPairs-map (λ c e. c.name ≢ e.name) (resolved_class d) d.classes
       (AllPairs-unmap (λ m n. m.text ≢ n.text) class_name d.classes
-      (AreFresh-apart kept_names (map class_name d.classes)
-      (class_names_fresh kept_names ast.statements (AreFresh-from_repeated kept_names d.names (once d passes.twice).names))))
+      (AreFresh-apart reserved_names (map class_name d.classes)
+      (class_names_fresh reserved_names ast.statements (AreFresh-from_repeated reserved_names d.names (once d passes.twice).names))))
 
   supers : All (λ c. All (λ s. s < length (map (resolved_class d) d.classes)) c.supers) (map (resolved_class d) d.classes)
   supers = All-map (λ c. All (λ s. s < length (map (resolved_class d) d.classes)) c.supers) (resolved_class d) d.classes

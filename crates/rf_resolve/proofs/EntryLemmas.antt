@@ -1,4 +1,4 @@
--- The one place at which an item passes, where there is one alone.
+-- The one position at which an item passes, where there is one alone.
 use Rattle.std.proofs.Common.{◌≡◌, ◌≢◌, ◌<◌, ◌+◌, ◌∙◌, ℕ, zero, suc, Bool, true, List, [], ◌∷◌, ◌++◌, length, map, get_or, cond, None, Some, arith, refl, sym, ap, inl, inr}
 use Rattle.std.specs.Prelude.{count_by, nat_lt, position}
 use Rattle.std.specs.List.{position_or_len, range_with_len}
@@ -26,7 +26,7 @@ length-numbers_where p n (x ∷ xs) =
     numbered p n x xs ∙ ap (λ k. cond (p x) 1 0 + k) (length-numbers_where p (suc n) xs)
     ∙ sym (counted p x xs)
 
--- the first of the numbers is that of the first place
+-- the first of the numbers is that of the first position
 first-numbers_where : {X : Type 0} (p : X → Bool) (n : ℕ) (xs : List X) →
     0 < length (numbers_where n p xs) →
     (get_or (numbers_where n p xs) 0 0 ≡ n + position_or_len p xs) ×

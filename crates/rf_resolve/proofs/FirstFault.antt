@@ -4,9 +4,9 @@ use Rattle.std.specs.Option.{option_map, option_or}
 use Rattle.rf_names.specs.Declarations.{Declared}
 use Rattle.rf_limits.specs.Limits.{earliest, limit_kinds}
 use Rattle.rf_resolve.specs.Fault.{fault_of, first_of, limit_error}
-use Rattle.rf_names.specs.LeastPlace.{least_of}
-use Rattle.rf_name_rules.specs.Places.{ambiguous_places, arity_places, bad_container_places, bad_opposite_places, bad_range_places, cycle_places, equals_two_places, twice_places, unknown_places}
-use Rattle.rf_clause_rules.specs.ClausePlaces.{loose_places, recursive_places}
+use Rattle.rf_names.specs.Offsets.{least_of}
+use Rattle.rf_name_rules.specs.RuleOffsets.{ambiguous_offsets, arity_offsets, bad_container_offsets, bad_opposite_offsets, bad_range_offsets, cycle_offsets, equals_two_offsets, twice_offsets, unknown_offsets}
+use Rattle.rf_clause_rules.specs.ClauseOffsets.{loose_offsets, recursive_offsets}
 use Rattle.rf_resolve.specs.declared.error.NameError.{NameError}
 use Rattle.rf_resolve.specs.declared.error.NameError.TheVariants.{Ambiguous, Arity, BadContainer, BadOpposite, BadRange, ClassCycle, EqualsTwo, LooseVariable, Recursive, Twice, Unknown}
 
@@ -20,29 +20,29 @@ first_append (e ∷ es) fs = ap (option_or e) (first_append es fs) ∙ sym (or_a
 
 abbrev names_part : Declared → List (Option NameError)
 names_part d =
-    option_map Twice (least_of (twice_places d))
-    ∷ option_map Unknown (least_of (unknown_places d))
-    ∷ option_map Ambiguous (least_of (ambiguous_places d))
+    option_map Twice (least_of (twice_offsets d))
+    ∷ option_map Unknown (least_of (unknown_offsets d))
+    ∷ option_map Ambiguous (least_of (ambiguous_offsets d))
     ∷ []
 
 abbrev classes_part : Declared → List (Option NameError)
 classes_part d =
-    option_map ClassCycle (least_of (cycle_places d))
-    ∷ option_map BadOpposite (least_of (bad_opposite_places d))
-    ∷ option_map BadContainer (least_of (bad_container_places d))
-    ∷ option_map BadRange (least_of (bad_range_places d))
+    option_map ClassCycle (least_of (cycle_offsets d))
+    ∷ option_map BadOpposite (least_of (bad_opposite_offsets d))
+    ∷ option_map BadContainer (least_of (bad_container_offsets d))
+    ∷ option_map BadRange (least_of (bad_range_offsets d))
     ∷ []
 
 abbrev predicates_part : Declared → List (Option NameError)
 predicates_part d =
-    option_map Arity (least_of (arity_places d))
-    ∷ option_map LooseVariable (least_of (loose_places d))
-    ∷ option_map Recursive (least_of (recursive_places d))
+    option_map Arity (least_of (arity_offsets d))
+    ∷ option_map LooseVariable (least_of (loose_offsets d))
+    ∷ option_map Recursive (least_of (recursive_offsets d))
     ∷ []
 
 abbrev rest_part : Declared → List (Option NameError)
 rest_part d =
-    option_map EqualsTwo (least_of (equals_two_places d))
+    option_map EqualsTwo (least_of (equals_two_offsets d))
     ∷ option_map limit_error (earliest d limit_kinds)
     ∷ []
 
@@ -56,7 +56,7 @@ whole d =
     (first_append (classes_part d) (predicates_part d ++ rest_part d)
     ∙ ap (option_or (first_of (classes_part d))) (first_append (predicates_part d) (rest_part d)))
 
--- the first of four where those in front of it are none
+-- the first of four where those before it are none
 abbrev first_of_four : Option NameError → Option NameError → Option NameError → Option NameError → Option NameError
 first_of_four a b c e = option_or a (option_or b (option_or c e))
 

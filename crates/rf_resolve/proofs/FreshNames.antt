@@ -6,9 +6,9 @@ use Rattle.std.proofs.lemmas.List.Elements.{All-cons, All-nil}
 use Rattle.std.proofs.lemmas.Slice.Eq.{bytes_eq-Decides}
 use Rattle.rf_syntax.specs.declared.name.Name.{Name}
 use Rattle.rf_names.specs.LookUp.{first_of_each, is_text_of}
-use Rattle.rf_names.specs.LeastPlace.{place_if}
-use Rattle.rf_name_rules.specs.Places.{repeated}
-use Rattle.rf_resolve.proofs.ClearPlaces.{nil-parts, place_if-nil}
+use Rattle.rf_names.specs.Offsets.{offset_if}
+use Rattle.rf_name_rules.specs.RuleOffsets.{repeated}
+use Rattle.rf_resolve.proofs.ClearOffsets.{nil-parts, offset_if-nil}
 use Rattle.rf_resolve.proofs.PairFacts.{AllPairs-cons, AllPairs-nil}
 
 -- none of these texts is that of a name, and no name has that of one before it
@@ -19,8 +19,8 @@ AreFresh seen (n ∷ ns) = (is_text_of seen n ≡ false) × AreFresh (n.text ∷
 pub AreFresh-from_repeated : (seen : List (List ℕ)) (ns : List Name) → repeated seen ns ≡ [] → AreFresh seen ns
 AreFresh-from_repeated seen [] e = tt
 AreFresh-from_repeated seen (n ∷ ns) e =
-    let parts = nil-parts (place_if (is_text_of seen n) n.at) (repeated (n.text ∷ seen) ns) e in
-    (place_if-nil (is_text_of seen n) n.at parts.0, AreFresh-from_repeated (n.text ∷ seen) ns parts.1)
+    let parts = nil-parts (offset_if (is_text_of seen n) n.at) (repeated (n.text ∷ seen) ns) e in
+    (offset_if-nil (is_text_of seen n) n.at parts.0, AreFresh-from_repeated (n.text ∷ seen) ns parts.1)
 
 -- fewer texts before them
 abbrev AreFewer : List (List ℕ) → List (List ℕ) → Type 0
@@ -36,7 +36,7 @@ AreFresh-fewer few many [] h fresh = tt
 AreFresh-fewer few many (n ∷ ns) h fresh =
     (h n fresh.0, AreFresh-fewer (n.text ∷ few) (n.text ∷ many) ns (AreFewer-cons few many n.text h) fresh.1)
 
--- names behind others
+-- names after others
 pub AreFresh-tail : (seen : List (List ℕ)) (n : Name) (ns : List Name) → AreFresh seen (n ∷ ns) → AreFresh seen ns
 AreFresh-tail seen n ns fresh =
     AreFresh-fewer seen (n.text ∷ seen) ns (λ m e. (or_parts (bytes_eq m.text n.text) (is_text_of seen m) e).1) fresh.1

@@ -19,7 +19,7 @@ position_or_len-map p f (x ∷ xs) =
     let rest = position_or_len-map p f xs in
     elim (cases_Bool (p (f x))) [ inl e ↦ rw e refl | inr e ↦ rw e (ap (λ n. 1 + n) rest) ]
 
--- the first place is that of the item that the found one was made of
+-- the first position is that of the item that the found one was made of
 pub position_of_made : {X Y : Type 0} (p : Y → Bool) (f : X → Y) (xs : List X) →
     position p (map f xs) ≡ position (λ x. p (f x)) xs
 position_of_made p f xs =
@@ -27,7 +27,7 @@ position_of_made p f xs =
     let long = length-map xs f in
     rw (place, long) refl
 
--- no first place, so no item passes
+-- no first position, so no item passes
 any-none : {X : Type 0} (p : X → Bool) (xs : List X) → position p xs ≡ None → list_any p xs ≡ false
 any-none p xs e = elim (cases_Bool (list_any p xs)) [
   | inl some ↦ (let within : nat_lt (position_or_len p xs) (length xs) ≡ true =
@@ -52,25 +52,25 @@ position-none p xs none = elim (cases_Bool (nat_lt (position_or_len p xs) (lengt
 ]
 
 -- the number of the known variable that a name stands for
-abbrev pub known_place : List Name → Name → Option ℕ
-known_place known name = if is_variable_of known name then position (reads name.text) known
+abbrev pub known_position : List Name → Name → Option ℕ
+known_position known name = if is_variable_of known name then position (reads name.text) known
     else None
 
-pub plain_place : (known : List Name) (name : Name) → is_blank name ≡ false →
-    position (reads name.text) known ≡ known_place known name
-plain_place known name plain = elim (cases_Bool (list_any (reads name.text) known)) [
+pub plain_position : (known : List Name) (name : Name) → is_blank name ≡ false →
+    position (reads name.text) known ≡ known_position known name
+plain_position known name plain = elim (cases_Bool (list_any (reads name.text) known)) [
   | inl some ↦ rw (plain, some) refl
   | inr none ↦ rw (plain, none) (position-none (reads name.text) known none)
 ]
 
-pub blank_place : (known : List Name) (name : Name) → is_blank name ≡ true →
-    None ≡ known_place known name
-blank_place known name blank = rw blank refl
+pub blank_position : (known : List Name) (name : Name) → is_blank name ≡ true →
+    None ≡ known_position known name
+blank_position known name blank = rw blank refl
 
-pub ruleset found_steps = (common_steps, plain_place, blank_place)
+pub ruleset found_steps = (common_steps, plain_position, blank_position)
 
 -- a name without such a number is a new variable
-is_new : (known : List Name) (name : Name) → known_place known name ≡ None →
+is_new : (known : List Name) (name : Name) → known_position known name ≡ None →
     is_variable_of known name ≡ false
 is_new known name e = elim (cases_Bool (is_variable_of known name)) [
   | inl old ↦ (let parts = and_parts (not (is_blank name)) (list_any (reads name.text) known) old in
@@ -80,11 +80,11 @@ is_new known name e = elim (cases_Bool (is_variable_of known name)) [
   | inr new ↦ new
 ]
 
-pub new_number : (known : List Name) (name : Name) → known_place known name ≡ None →
+pub new_number : (known : List Name) (name : Name) → known_position known name ≡ None →
     variable_number known name ≡ length known
 new_number known name e = let new = is_new known name e in rw new refl
 
-pub new_joins : (known : List Name) (name : Name) → known_place known name ≡ None →
+pub new_joins : (known : List Name) (name : Name) → known_position known name ≡ None →
     with_variable known name ≡ known ++ name ∷ []
 new_joins known name e = let new = is_new known name e in rw new refl
 

@@ -3,7 +3,7 @@ pub mod BodyLemmas
 pub mod CallsFit
 pub mod ClassesFit
 pub mod ClauseFit
-pub mod ClearPlaces
+pub mod ClearOffsets
 pub mod EntryLemmas
 pub mod FirstFault
 pub mod FreshNames

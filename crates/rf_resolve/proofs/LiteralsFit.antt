@@ -21,10 +21,10 @@ use Rattle.rf_syntax.specs.declared.predicate.Param.{Param}
 use Rattle.rf_names.specs.Bodies.{clause_names, literal_names, variable_number, variable_numbers, with_variable, with_variables}
 use Rattle.rf_names.specs.Declarations.{Declared}
 use Rattle.rf_names.specs.LookUp.{can_be_closed, class_named, literal_symbols, parameters_of, reads, sense_of, the_number, the_symbol}
-use Rattle.rf_name_rules.specs.Places.{ambiguous_literal, literal_arity, unknown_literal, unknown_param_class}
+use Rattle.rf_name_rules.specs.RuleOffsets.{ambiguous_literal, literal_arity, unknown_literal, unknown_param_class}
 use Rattle.rf_resolve.specs.Resolved.{class_literal, class_literals, resolved_literal, resolved_literals}
 use Rattle.rf_resolve.proofs.CallsFit.{predicate_at-made, predicates_made}
-use Rattle.rf_resolve.proofs.ClearPlaces.{place_if-nil}
+use Rattle.rf_resolve.proofs.ClearOffsets.{offset_if-nil}
 use Rattle.rf_resolve.proofs.SenseLemmas.{IsCallOf, IsCallOf-from_nil, is_there}
 use Rattle.rf_names.proofs.VariableLemmas.{length-variable_numbers, position-some, variable_number-below, variable_numbers-below, with_variable-longer, with_variables-append, with_variables-longer}
 
@@ -129,7 +129,7 @@ module _ (d : Declared) where
   class_literal-within m n (Some class) known l =
       let there : nat_lt (the_number (class_named d class.text)) (length d.classes) ≡ true =
       lt-ltb (the_number (class_named d class.text)) (length d.classes)
-      (position-some (λ c. reads class.text c.name) d.classes (place_if-nil (is_none (class_named d class.text)) class.at known)) in
+      (position-some (λ c. reads class.text c.name) d.classes (offset_if-nil (is_none (class_named d class.text)) class.at known)) in
       let below : nat_lt n m ≡ true = lt-ltb n m l in
       rw (there, below) refl
 

@@ -1,5 +1,5 @@
 -- What a text that breaks no rule gives to those who make its problem.
-use Rattle.std.proofs.Common.{◌≡◌, ◌∙◌, ◌≤◌, ◌<◌, ◌^◌, ◌⊎◌, ◌++◌, All, List, map, length, Result, Ok, Err, IfOk, IfErr, MatchResult, Some, None, sym, ap, subst, inl, inr, arith}
+use Rattle.std.proofs.Common.{◌≡◌, ◌∙◌, ◌≤◌, ◌<◌, ◌^◌, ◌⊎◌, ◌++◌, All, List, map, length, Result, Ok, Err, IfOk, IfErr, Some, None, sym, ap, subst, inl, inr, arith}
 use Rattle.std.proofs.lemmas.List.Elements.{All-weaker}
 use Rattle.rf_problem.specs.Valid.{concrete_numbers, new_object}
 use Rattle.rf_problem.specs.declared.class.Class.{Class}
@@ -7,15 +7,17 @@ use Rattle.rf_problem.specs.declared.problem.Problem.{Problem}
 use Rattle.rf_problem.proofs.ProblemLemmas.{same_problem}
 use Rattle.rf_syntax.specs.declared.statement.Ast.{Ast}
 use Rattle.rf_names.specs.Declarations.{Declared, declared_in, references_of}
-use Rattle.rf_resolve.specs.Fault.{Resolves, fault_of}
+use Rattle.rf_resolve.specs.Fault.{NameFault, Resolves, fault_of}
 use Rattle.rf_names.specs.LookUp.{named_objects}
 use Rattle.rf_resolve.specs.Readable.{IsReadableDeclared, IsReadableTree}
 use Rattle.rf_resolve.specs.Resolved.{IsResolved, resolved_class, resolved_object, resolved_reference}
 use Rattle.rf_limits.specs.declared.kind.LimitKind.TheVariants.{Classes}
 use Rattle.rf_resolve.specs.declared.error.NameError.{NameError}
-use Rattle.rf_resolve.specs.declared.error.NameError.TheVariants.{Memory}
+use Rattle.rf_failure.specs.Answers.{Answers, IfFault}
+use Rattle.rf_failure.specs.declared.Failure.{Failure}
+use Rattle.rf_failure.specs.declared.Failure.TheVariants.{Fault, Memory}
 use Rattle.rf_resolve.proofs.ClassesFit.{class_count}
-use Rattle.rf_resolve.proofs.ClearPlaces.{few-from_first_past}
+use Rattle.rf_resolve.proofs.ClearOffsets.{few-from_first_past}
 use Rattle.rf_resolve.proofs.PairFacts.{All-unmap}
 use Rattle.rf_resolve.proofs.Passing.{passes}
 use Rattle.rf_resolve.proofs.ReadableParts.{readable_declared}
@@ -54,14 +56,32 @@ one_problem d p q a b =
     (a.objects ∙ ap (λ cs. map (resolved_object d) (named_objects d) ++ map new_object (concrete_numbers 0 cs)) classes ∙ sym b.objects)
     (a.assertions ∙ sym b.assertions) (a.scopes ∙ sym b.scopes)
 
--- what makes that problem gives no other, and fails for want of memory alone
-pub found_one :
-    (ast : Ast) (d : Declared) → d ≡ declared_in ast → (p : Problem) (result : Result Problem NameError) → Resolves ast p →
-    IfOk result (λ q. IsResolved d q) → IfErr result (λ e. (e ≡ Memory) ⊎ (fault_of d ≡ Some e)) →
-    MatchResult result (λ q. q ≡ p) (λ e. e ≡ Memory)
-found_one ast d same p (Ok q) is made failed =
-    one_problem d q p made (subst (λ x. IsResolved x p) (sym same) is.resolved)
-found_one ast d same p (Err e) is made failed = elim failed [
-  | inl memory ↦ memory
-  | inr fault ↦ (let never : None ≡ Some e = sym is.sound ∙ ap fault_of (sym same) ∙ fault in absurd cc)
-]
+-- a call that makes that problem, or names the fault of the declarations, answers for the tree
+pub answers_for :
+    (ast : Ast) (d : Declared) → d ≡ declared_in ast → (result : Result Problem (Failure NameError)) →
+    IfOk result (λ p. fault_of d ≡ None) → IfOk result (λ p. IsResolved d p) →
+    IfErr result (λ e. IfFault e (λ f. fault_of d ≡ Some f)) →
+    Answers (λ p. p) (Resolves ast) (NameFault ast) result
+answers_for ast d same (Ok q) sound made failed = record {
+  ok = record { sound = ap fault_of (sym same) ∙ sound; resolved = subst (λ x. IsResolved x q) same made };
+  found = λ p is. one_problem d q p made (subst (λ x. IsResolved x p) (sym same) is.resolved);
+  fault = tt;
+  stuck = λ f fails. (let never : None ≡ Some f = sym sound ∙ ap fault_of same ∙ fails in absurd cc);
+}
+answers_for ast d same (Err (Fault e)) sound made failed = record {
+  ok = tt;
+  found = λ p is. (let never : None ≡ Some e = sym is.sound ∙ ap fault_of (sym same) ∙ failed in absurd cc);
+  fault = ap fault_of (sym same) ∙ failed;
+  stuck = λ f fails. inl (let one : Some e ≡ Some f = sym failed ∙ ap fault_of same ∙ fails in cc);
+}
+answers_for ast d same (Err Memory) sound made failed = answers_memory (λ p. p) (Resolves ast) (NameFault ast)
+
+-- running out of memory answers for any tree
+pub answers_memory :
+    {T X F : Type 0} (view : T → X) (Means : X → Type 0) (Fails : F → Type 0) → Answers view Means Fails (Err Memory)
+answers_memory view Means Fails = record {
+  ok = tt;
+  found = λ x is. refl;
+  fault = tt;
+  stuck = λ f fails. inr refl;
+}

@@ -10,7 +10,7 @@ use Rattle.rf_problem.specs.declared.predicate.Literal.{Literal}
 use Rattle.rf_problem.specs.declared.predicate.Literal.TheVariants.{Call, Same, Differ}
 use Rattle.rf_names.specs.LookUp.{numbers_where}
 use Rattle.rf_resolve.specs.Resolved.{mentions, negates, negation_around, only_one}
-use Rattle.rf_resolve.proofs.ClearPlaces.{cons_not_nil}
+use Rattle.rf_resolve.proofs.ClearOffsets.{cons_not_nil}
 
 -- each number is that of an item
 pub numbers_where-below :
@@ -51,7 +51,7 @@ numbers_where-one p n (x ∷ xs) j e (suc k) d l h = elim (cases_Bool (p x)) [
   | inr gone ↦ (let later = numbers_where-one p (suc n) xs j (rw gone at e) k d (omega arith) h in omega arith)
 ]
 
--- whether a `!` stands in front of a literal
+-- whether a `!` stands before a literal
 abbrev pub is_negation : Literal → Bool
 is_negation (Call negated closure symbol args) = negated
 is_negation (Same a b) = false

@@ -6,7 +6,7 @@ use Rattle.std.proofs.lemmas.List.Elements.{All-cons, All-nil}
 use Rattle.std.proofs.lemmas.List.Quantifiers.{position-Some}
 use Rattle.rf_names.specs.LookUp.{class_named, extends_somehow, inherited_members, members_of_some, numbers_where, own_members, own_or_inherited, reads, references_named, the_number}
 use Rattle.rf_names.specs.Declarations.{Declared}
-use Rattle.rf_name_rules.specs.Places.{is_same_number}
+use Rattle.rf_name_rules.specs.RuleOffsets.{is_same_number}
 
 -- a number that isn't missing
 pub some_number : (o : Option ℕ) → is_none o ≡ false → o ≡ Some (the_number o)
@@ -17,7 +17,7 @@ pub some_from_is_some : (o : Option ℕ) → is_some o ≡ true → o ≡ Some (
 some_from_is_some None e = absurd (true≢false (sym e))
 some_from_is_some (Some n) e = refl
 
--- the place of an element lies in the list, and the element passes
+-- the position of an element lies in the list, and the element passes
 pub position_below : {X : Type 0} (p : X → Bool) (xs : List X) (i : ℕ) → position p xs ≡ Some i → i < length xs
 position_below p [] i e = let never : ⊥ = cc in absurd never
 position_below p (x ∷ xs) i e = (position-Some p (x ∷ xs) i x e).0

@@ -31,7 +31,7 @@ variable_numbers_more known names i name below is =
     ∙ ap (λ n. variable_numbers known (take i names)
     ++ variable_number (with_variables known (take i names)) n ∷ []) (sym is)
 
--- there are no more variables behind some of the names than behind all
+-- there are no more variables after some of the names than after all
 with_variables_part : (known names : List Name) (i : ℕ) →
     length (with_variables known (take i names)) ≤ length (with_variables known names)
 with_variables_part known names i =

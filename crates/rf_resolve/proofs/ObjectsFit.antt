@@ -12,11 +12,11 @@ use Rattle.rf_syntax.specs.declared.name.Name.{Name}
 use Rattle.rf_text.specs.Written.{CanBeQuoted}
 use Rattle.rf_limits.specs.declared.kind.LimitKind.TheVariants.{Objects}
 use Rattle.rf_names.specs.Declarations.{Declared}
-use Rattle.rf_resolve.specs.Fault.{Passes}
+use Rattle.rf_resolve.specs.Passes.{Passes}
 use Rattle.rf_names.specs.LookUp.{first_of_each, is_text_of, item_named, named_objects, reads}
 use Rattle.rf_resolve.specs.Readable.{IsReadableDeclared, IsSmallRange}
 use Rattle.rf_resolve.specs.Resolved.{resolved_class, resolved_object}
-use Rattle.rf_resolve.proofs.ClearPlaces.{few-from_first_past}
+use Rattle.rf_resolve.proofs.ClearOffsets.{few-from_first_past}
 use Rattle.rf_resolve.proofs.FreshNames.{AreFresh-apart, AreFresh-first_of_each}
 use Rattle.rf_resolve.proofs.PairFacts.{AllPairs-append, AllPairs-map}
 use Rattle.rf_resolve.proofs.SmallCounts.{IsSmall-item}
@@ -58,7 +58,7 @@ module _ (d : Declared) (classes : List Class) where
   own_named [] = refl
   own_named (n ∷ ns) = ap (λ os. resolved_object d n ∷ os) (own_named ns)
 
-  -- the named ones are those in front
+  -- the named ones come first
   pub own_first : own_objects (own ++ new) ≡ own
   own_first = filter-append (λ o. is_named o.name) own new
       ∙ ap (λ os. os ++ own_objects new) (own_named (named_objects d))

@@ -4,7 +4,7 @@ use Rattle.std.proofs.lemmas.List.{length-map}
 use Rattle.std.specs.List.{flat_map}
 use Rattle.std.proofs.lemmas.List.Elements.{All-append, All-cons, All-head, All-map, All-nil, All-tail}
 
--- what comes of the element at a place
+-- what comes of the element at a position
 pub get_or-map_any : {X Y : Type 0} (f : X → Y) (xs : List X) (k : ℕ) (d : X) →
     get_or (map f xs) k (f d) ≡ f (get_or xs k d)
 get_or-map_any f [] k d = refl

@@ -10,7 +10,7 @@ use Rattle.rf_problem.specs.declared.reference.Reference.{Reference as Relation}
 use Rattle.rf_problem.specs.declared.scope.Scope.{Scope}
 use Rattle.rf_syntax.specs.declared.statement.Ast.{Ast}
 use Rattle.rf_names.specs.Declarations.{Declared, declared_in}
-use Rattle.rf_resolve.specs.Fault.{Passes}
+use Rattle.rf_resolve.specs.Passes.{Passes}
 use Rattle.rf_names.specs.LookUp.{named_objects}
 use Rattle.rf_resolve.specs.Readable.{IsReadableDeclared, IsReadableTree}
 use Rattle.rf_resolve.specs.Resolved.{resolved_assertion, resolved_class, resolved_object, resolved_predicate, resolved_reference, resolved_scope}

@@ -12,16 +12,16 @@ use Rattle.rf_syntax.specs.declared.statement.Statement.TheVariants.{Class, Pred
 use Rattle.rf_text.specs.Written.{CanBeQuoted}
 use Rattle.rf_names.specs.Bodies.{clause_variables, first_name}
 use Rattle.rf_names.specs.Declarations.{Declared, PredicateDecl, declared_in, items_of, predicates_in}
-use Rattle.rf_resolve.specs.Fault.{Passes}
+use Rattle.rf_resolve.specs.Passes.{Passes}
 use Rattle.rf_limits.specs.Limits.{clause_name, first_past}
-use Rattle.rf_name_rules.specs.Places.{ambiguous_literal, literal_arity, unknown_assertion, unknown_bound, unknown_class, unknown_literal, unknown_param_class, unknown_places, unknown_reference}
-use Rattle.rf_names.specs.LeastPlace.{places_in_literals}
+use Rattle.rf_name_rules.specs.RuleOffsets.{ambiguous_literal, literal_arity, unknown_assertion, unknown_bound, unknown_class, unknown_literal, unknown_param_class, unknown_offsets, unknown_reference}
+use Rattle.rf_names.specs.Offsets.{offsets_in_literals}
 use Rattle.rf_resolve.specs.Readable.{IsReadableDeclared}
 use Rattle.rf_resolve.specs.Resolved.{resolved_class, resolved_clause, resolved_predicate, resolved_reference}
 use Rattle.rf_limits.specs.declared.kind.LimitKind.TheVariants.{Predicates, Parameters, Clauses, Literals, Variables}
 use Rattle.rf_resolve.proofs.CallsFit.{calls-no_cycle, predicates_made}
 use Rattle.rf_resolve.proofs.ClauseFit.{FitsClause-from_sound, IsSoundClause}
-use Rattle.rf_resolve.proofs.ClearPlaces.{few-from_first_past, nil-each, nil-left, nil-right, places_in_clauses-each, places_in_literals-each}
+use Rattle.rf_resolve.proofs.ClearOffsets.{few-from_first_past, nil-each, nil-left, nil-right, offsets_in_clauses-each, offsets_in_literals-each}
 
 -- each clause has literals
 abbrev pub HasLiterals : PredicateDecl → Type 0
@@ -67,7 +67,7 @@ nil-middle : (xa xb xc : List ℕ) → xa ++ xb ++ xc ≡ [] → xb ≡ []
 nil-middle xa xb xc e = nil-right xa xb (nil-left (xa ++ xb) xc e)
 
 module _ (d : Declared) where
-  -- the places of unknown names, by where they stand
+  -- the offsets of unknown names, by where they stand
   abbrev in_supers : List ℕ
   in_supers = flat_map (λ c. flat_map (unknown_class d) c.supers) d.classes
 
@@ -81,22 +81,22 @@ module _ (d : Declared) where
   in_bounds = flat_map (λ b. unknown_bound d b.name) d.bounds
 
   abbrev in_literals : List ℕ
-  in_literals = places_in_literals (λ n. unknown_literal d) d.predicates
+  in_literals = offsets_in_literals (λ n. unknown_literal d) d.predicates
 
   abbrev in_assertions : List ℕ
   in_assertions = flat_map (unknown_assertion d) d.assertions
 
-  params-known : unknown_places d ≡ [] → in_params ≡ []
+  params-known : unknown_offsets d ≡ [] → in_params ≡ []
   params-known none = nil-third in_supers in_references in_params in_bounds in_literals in_assertions none
 
-  literals-known : unknown_places d ≡ [] → in_literals ≡ []
+  literals-known : unknown_offsets d ≡ [] → in_literals ≡ []
   literals-known none = nil-fifth in_supers in_references in_params in_bounds in_literals in_assertions none
 
 module _ (d : Declared) (passes : Passes d) where
-  literals-clear : places_in_literals (λ n. ambiguous_literal d) d.predicates ≡ []
+  literals-clear : offsets_in_literals (λ n. ambiguous_literal d) d.predicates ≡ []
   literals-clear = nil-middle _ _ _ passes.ambiguous
 
-  literals-arity : places_in_literals (λ n. literal_arity d) d.predicates ≡ []
+  literals-arity : offsets_in_literals (λ n. literal_arity d) d.predicates ≡ []
   literals-arity = nil-left _ _ passes.arities
 
   -- each clause is sound
@@ -105,19 +105,19 @@ module _ (d : Declared) (passes : Passes d) where
       All (IsSoundClause d (get_or d.predicates k e).params) (get_or d.predicates k e).clauses
   clauses-sound k e l j c m = record {
     literals = λ i b n. record {
-      known = places_in_literals-each (λ q. unknown_literal d) d.predicates (literals-known d passes.unknown) k e l j c m i b n;
-      clear = places_in_literals-each (λ q. ambiguous_literal d) d.predicates literals-clear k e l j c m i b n;
-      arity = places_in_literals-each (λ q. literal_arity d) d.predicates literals-arity k e l j c m i b n;
+      known = offsets_in_literals-each (λ q. unknown_literal d) d.predicates (literals-known d passes.unknown) k e l j c m i b n;
+      clear = offsets_in_literals-each (λ q. ambiguous_literal d) d.predicates literals-clear k e l j c m i b n;
+      arity = offsets_in_literals-each (λ q. literal_arity d) d.predicates literals-arity k e l j c m i b n;
     };
     typed =
         nil-each (λ param. unknown_param_class d param.class) (get_or d.predicates k e).params
         (nil-each (λ p. flat_map (λ param. unknown_param_class d param.class) p.params) d.predicates (params-known d passes.unknown) k e l);
     few_literals =
         few-from_first_past first_name 32 (get_or (get_or d.predicates k e).clauses j c)
-        (places_in_clauses-each (λ n params clause. first_past 32 first_name clause) d.predicates (passes.limits Literals) k e l j c m);
+        (offsets_in_clauses-each (λ n params clause. first_past 32 first_name clause) d.predicates (passes.limits Literals) k e l j c m);
     few_variables =
         few-from_first_past (λ name. name) 8 (clause_variables (get_or d.predicates k e).params (get_or (get_or d.predicates k e).clauses j c))
-        (places_in_clauses-each (λ n params clause. first_past 8 (λ name. name) (clause_variables params clause)) d.predicates
+        (offsets_in_clauses-each (λ n params clause. first_past 8 (λ name. name) (clause_variables params clause)) d.predicates
         (passes.limits Variables) k e l j c m);
   }
 

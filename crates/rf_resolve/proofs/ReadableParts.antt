@@ -9,7 +9,7 @@ use Rattle.rf_problem.specs.Valid.{greatest_number}
 use Rattle.rf_syntax.specs.Assertion.{arg_pieces, assertion_pieces, atom_pieces, value_pieces}
 use Rattle.rf_syntax.specs.Class.{body_pieces, feature_pieces, feature_word_pieces, with_mult_pieces}
 use Rattle.rf_syntax.specs.Name.{kind_of_name, name_pieces, symbol_pieces}
-use Rattle.rf_syntax.specs.Parts.{each_behind, flagged, in_parens, optional, optional_behind, separated, separated_or_none}
+use Rattle.rf_syntax.specs.Parts.{each_after, flagged, in_parens, optional, optional_after, separated, separated_or_none}
 use Rattle.rf_syntax.specs.Piece.{Piece, terminal}
 use Rattle.rf_syntax.specs.Predicate.{clause_pieces, param_pieces, start_pieces}
 use Rattle.rf_syntax.specs.Range.{mult_pieces, range_pieces, upper_pieces}
@@ -37,7 +37,7 @@ use Rattle.rf_text.specs.Written.{CanBeQuoted}
 use Rattle.rf_names.specs.Declarations.{ClassDecl, PredicateDecl, ReferenceDecl, asserted_atom, bounds_in, classes_in, declared_in, features_or_none, items_in, items_of, mentions_in, object_alone, object_in, predicates_in, references_of}
 use Rattle.rf_resolve.specs.Readable.{IsReadable, IsReadableDeclared, IsReadableTree, IsSmallMult, IsSmallRange}
 use Rattle.rf_resolve.specs.Resolved.{upper_end}
-use Rattle.rf_resolve.proofs.PairFacts.{All-back, All-flat_map, All-flatten, All-front, All-unmap}
+use Rattle.rf_resolve.proofs.PairFacts.{All-back, All-flat_map, All-flatten, All-prefix, All-unmap}
 
 -- the token of a piece is one of texts
 abbrev IsRead : Piece → Type 0
@@ -46,8 +46,8 @@ IsRead p = IsReadable p.kind
 abbrev AreRead : List Piece → Type 0
 AreRead ps = All IsRead ps
 
-front : (xs ys : List Piece) → AreRead (xs ++ ys) → AreRead xs
-front xs ys all = All-front IsRead xs ys all
+prefix : (xs ys : List Piece) → AreRead (xs ++ ys) → AreRead xs
+prefix xs ys all = All-prefix IsRead xs ys all
 
 back : (xs ys : List Piece) → AreRead (xs ++ ys) → AreRead ys
 back xs ys all = All-back IsRead xs ys all
@@ -60,12 +60,12 @@ module _ {T : Type 0} (pieces : T → List Piece) where
   read_optional None all p e = let never : ⊥ = cc in absurd never
   read_optional (Some q) all p e = let same : q ≡ p = cc in subst (λ r. AreRead (pieces r)) same all
 
-  read_behind : (kind : Kind) (part : Option T) → AreRead (optional_behind kind pieces part) →
+  read_behind : (kind : Kind) (part : Option T) → AreRead (optional_after kind pieces part) →
       ForSome part (λ p. AreRead (pieces p))
   read_behind kind None all p e = let never : ⊥ = cc in absurd never
   read_behind kind (Some q) all p e = let same : q ≡ p = cc in subst (λ r. AreRead (pieces r)) same (tail (terminal kind) (pieces q) all)
 
-  read_each : (kind : Kind) (parts : List T) → AreRead (each_behind kind pieces parts) →
+  read_each : (kind : Kind) (parts : List T) → AreRead (each_after kind pieces parts) →
       All (λ p. AreRead (pieces p)) parts
   read_each kind parts all = All-weaker (λ p. AreRead (terminal kind ∷ pieces p)) (λ p. AreRead (pieces p))
       (λ p read. tail (terminal kind) (pieces p) read) parts (All-flat_map IsRead (λ part. terminal kind ∷ pieces part) parts all)
@@ -73,14 +73,14 @@ module _ {T : Type 0} (pieces : T → List Piece) where
   read_separated : (kind : Kind) (parts : _) → AreRead (separated kind pieces parts) →
       All (λ p. AreRead (pieces p)) (items_of parts)
   read_separated kind parts all = All-cons (λ p. AreRead (pieces p)) parts.first parts.rest
-      (front (pieces parts.first) (each_behind kind pieces parts.rest) all)
-      (read_each kind parts.rest (back (pieces parts.first) (each_behind kind pieces parts.rest) all))
+      (prefix (pieces parts.first) (each_after kind pieces parts.rest) all)
+      (read_each kind parts.rest (back (pieces parts.first) (each_after kind pieces parts.rest) all))
 
   read_separated_or_none : (kind : Kind) (parts : List T) → AreRead (separated_or_none kind pieces parts) →
       All (λ p. AreRead (pieces p)) parts
   read_separated_or_none kind [] all = All-nil (λ p. AreRead (pieces p))
   read_separated_or_none kind (p ∷ ps) all = All-cons (λ p. AreRead (pieces p)) p ps
-      (front (pieces p) (each_behind kind pieces ps) all) (read_each kind ps (back (pieces p) (each_behind kind pieces ps) all))
+      (prefix (pieces p) (each_after kind pieces ps) all) (read_each kind ps (back (pieces p) (each_after kind pieces ps) all))
 
 -- names
 read_name : (n : Name) → AreRead (name_pieces n) → CanBeQuoted n.text
@@ -105,7 +105,7 @@ read_small r all s e = read_range s (all s e)
 
 read_mult : (m : Mult) → AreRead (mult_pieces m) → ForSome m.range IsSmallRange
 read_mult m all = read_small m.range (read_optional range_pieces m.range
-    (front (optional range_pieces m.range) (terminal right_bracket ∷ []) (tail _ (optional range_pieces m.range ++ terminal right_bracket ∷ []) all)))
+    (prefix (optional range_pieces m.range) (terminal right_bracket ∷ []) (tail _ (optional range_pieces m.range ++ terminal right_bracket ∷ []) all)))
 
 -- references
 abbrev IsReadFeature : Feature → Type 0
@@ -115,24 +115,24 @@ read_with_mult : (m : MultPlace) (name : Name) → AreRead (with_mult_pieces m n
     CanBeQuoted name.text × IsSmallMult m
 read_with_mult NoMult name all = (read_name name all, tt)
 read_with_mult (AfterType m) name all =
-    (read_name name (back (mult_pieces m) (name_pieces name) all), read_mult m (front (mult_pieces m) (name_pieces name) all))
+    (read_name name (back (mult_pieces m) (name_pieces name) all), read_mult m (prefix (mult_pieces m) (name_pieces name) all))
 read_with_mult (AfterName m) name all =
-    (read_name name (front (name_pieces name) (mult_pieces m) all), read_mult m (back (name_pieces name) (mult_pieces m) all))
+    (read_name name (prefix (name_pieces name) (mult_pieces m) all), read_mult m (back (name_pieces name) (mult_pieces m) all))
 
 read_feature : (f : Feature) → AreRead (feature_pieces f) → IsReadFeature f
 read_feature f all =
     let word : List Piece = optional feature_word_pieces f.word in
     let named : List Piece = with_mult_pieces f.mult f.name in
-    let opposite : List Piece = optional_behind opposite_word name_pieces f.opposite in
+    let opposite : List Piece = optional_after opposite_word name_pieces f.opposite in
     read_with_mult f.mult f.name (back (word ++ name_pieces f.target) named
-    (front (word ++ name_pieces f.target ++ named) opposite
-    (front (word ++ name_pieces f.target ++ named ++ opposite) (flagged f.semicolon semicolon) all)))
+    (prefix (word ++ name_pieces f.target ++ named) opposite
+    (prefix (word ++ name_pieces f.target ++ named ++ opposite) (flagged f.semicolon semicolon) all)))
 
 read_body : (body : Option (List Feature)) → AreRead (body_pieces body) → All IsReadFeature (features_or_none body)
 read_body None all = All-nil IsReadFeature
 read_body (Some features) all = All-weaker (λ f. AreRead (feature_pieces f)) IsReadFeature read_feature features
     (All-flat_map IsRead feature_pieces features
-    (front (flat_map feature_pieces features) (terminal right_brace ∷ []) (tail _ (flat_map feature_pieces features ++ terminal right_brace ∷ []) all)))
+    (prefix (flat_map feature_pieces features) (terminal right_brace ∷ []) (tail _ (flat_map feature_pieces features ++ terminal right_brace ∷ []) all)))
 
 -- classes
 abbrev IsReadClass : ClassDecl → Type 0
@@ -142,10 +142,10 @@ read_class : (s : Statement) → AreRead (statement_pieces s) → All IsReadClas
 read_class (ClassOf is_abstract name supers body) all =
     let start : List Piece = flagged is_abstract abstract_word in
     let named : List Piece = terminal class_word ∷ name_pieces name in
-    let above : List Piece = optional_behind extends_word (separated comma name_pieces) supers in
-    let fore = front (start ++ named ++ above) (body_pieces body) all in
+    let above : List Piece = optional_after extends_word (separated comma name_pieces) supers in
+    let fore = prefix (start ++ named ++ above) (body_pieces body) all in
     All-cons IsReadClass _ [] (
-      read_name name (tail (terminal class_word) (name_pieces name) (back start named (front (start ++ named) above fore))),
+      read_name name (tail (terminal class_word) (name_pieces name) (back start named (prefix (start ++ named) above fore))),
       read_body body (back (start ++ named ++ above) (body_pieces body) all),
     )
     (All-nil IsReadClass)
@@ -165,9 +165,9 @@ read_predicate (PredicateOf start name params clauses) all =
     let whole : List Piece = terminal iff ∷ separated semicolon clause_pieces clauses in
     All-cons IsReadPredicate _ []
     (read_name name (back (start_pieces start) (name_pieces name)
-    (front (start_pieces start ++ name_pieces name) parens
-    (front (start_pieces start ++ name_pieces name ++ parens) whole
-    (front (start_pieces start ++ name_pieces name ++ parens ++ whole) (terminal dot ∷ []) all)))))
+    (prefix (start_pieces start ++ name_pieces name) parens
+    (prefix (start_pieces start ++ name_pieces name ++ parens) whole
+    (prefix (start_pieces start ++ name_pieces name ++ parens ++ whole) (terminal dot ∷ []) all)))))
     (All-nil IsReadPredicate)
 read_predicate (ClassOf is_abstract name supers body) all = All-nil IsReadPredicate
 read_predicate (Declare names) all = All-nil IsReadPredicate
@@ -181,14 +181,14 @@ IsReadItem i = CanBeQuoted i.name.text × ForSome i.range IsSmallRange
 
 read_item : (i : Item) → AreRead (item_pieces i) → IsReadItem i
 read_item i all = (
-  read_name i.name (front (name_pieces i.name) (optional_behind equal range_pieces i.range) all),
-  read_small i.range (read_behind range_pieces equal i.range (back (name_pieces i.name) (optional_behind equal range_pieces i.range) all)),
+  read_name i.name (prefix (name_pieces i.name) (optional_after equal range_pieces i.range) all),
+  read_small i.range (read_behind range_pieces equal i.range (back (name_pieces i.name) (optional_after equal range_pieces i.range) all)),
 )
 
 read_list : {T : Type 0} (pieces : T → List Piece) (word : Kind) (parts : _) →
     AreRead (terminal word ∷ separated comma pieces parts ++ terminal dot ∷ []) → All (λ p. AreRead (pieces p)) (items_of parts)
 read_list pieces word parts all = read_separated pieces comma parts
-    (front (separated comma pieces parts) (terminal dot ∷ []) (tail (terminal word) (separated comma pieces parts ++ terminal dot ∷ []) all))
+    (prefix (separated comma pieces parts) (terminal dot ∷ []) (tail (terminal word) (separated comma pieces parts ++ terminal dot ∷ []) all))
 
 read_items : (s : Statement) → AreRead (statement_pieces s) → All IsReadItem (items_in s)
 read_items (Multi items) all = All-weaker (λ i. AreRead (item_pieces i)) IsReadItem read_item (items_of items) (read_list item_pieces multi_word items all)
@@ -218,9 +218,9 @@ abbrev IsReadName : Name → Type 0
 IsReadName n = CanBeQuoted n.text
 
 read_alone : (name : Name) (member : Option Name) →
-    AreRead (name_pieces name ++ optional_behind colon_colon name_pieces member) →
+    AreRead (name_pieces name ++ optional_after colon_colon name_pieces member) →
     All IsReadName (object_alone name member)
-read_alone name None all = All-cons IsReadName name [] (read_name name (front (name_pieces name) [] all)) (All-nil IsReadName)
+read_alone name None all = All-cons IsReadName name [] (read_name name (prefix (name_pieces name) [] all)) (All-nil IsReadName)
 read_alone name (Some member) all = All-nil IsReadName
 
 read_arg : (arg : Arg) → AreRead (arg_pieces arg) → All IsReadName (object_in arg)
@@ -232,13 +232,13 @@ read_args a all =
     let inner : List Piece = separated_or_none comma arg_pieces a.args in
     All-weaker (λ arg. AreRead (arg_pieces arg)) (λ arg. All IsReadName (object_in arg)) read_arg a.args
     (read_separated_or_none arg_pieces comma a.args
-    (front inner (terminal right_paren ∷ []) (tail (terminal left_paren) (inner ++ terminal right_paren ∷ []) (back (symbol_pieces a.symbol) (in_parens inner) all))))
+    (prefix inner (terminal right_paren ∷ []) (tail (terminal left_paren) (inner ++ terminal right_paren ∷ []) (back (symbol_pieces a.symbol) (in_parens inner) all))))
 
 read_asserted : (a : AssertionForm) → AreRead (assertion_pieces a) → AreRead (atom_pieces (asserted_atom a))
 read_asserted (Plain atom) all = all
 read_asserted (Not atom) all = tail _ (atom_pieces atom) all
 read_asserted (Maybe atom) all = tail _ (atom_pieces atom) all
-read_asserted (Valued atom value) all = front (atom_pieces atom) (terminal colon ∷ value_pieces value) all
+read_asserted (Valued atom value) all = prefix (atom_pieces atom) (terminal colon ∷ value_pieces value) all
 
 read_mentions : (s : Statement) → AreRead (statement_pieces s) → All IsReadName (mentions_in s)
 read_mentions (Declare names) all = All-weaker (λ n. AreRead (name_pieces n)) IsReadName read_name (items_of names) (read_list name_pieces declare_word names all)
@@ -248,7 +248,7 @@ read_mentions (Assert is_default assertion) all =
     let start : List Piece = flagged is_default default_word in
     let atom : AtomForm = asserted_atom assertion in
     All-flatten IsReadName object_in atom.args (read_args atom (read_asserted assertion
-    (back start (assertion_pieces assertion) (front (start ++ assertion_pieces assertion) (terminal dot ∷ []) all))))
+    (back start (assertion_pieces assertion) (prefix (start ++ assertion_pieces assertion) (terminal dot ∷ []) all))))
 read_mentions (ClassOf is_abstract name supers body) all = All-nil IsReadName
 read_mentions (PredicateOf start name params clauses) all = All-nil IsReadName
 read_mentions (Scope bounds) all = All-nil IsReadName

@@ -12,13 +12,13 @@ use Rattle.rf_syntax.specs.declared.name.Name.{Name}
 use Rattle.rf_text.specs.Written.{CanBeQuoted}
 use Rattle.rf_limits.specs.declared.kind.LimitKind.TheVariants.{References}
 use Rattle.rf_names.specs.Declarations.{ClassDecl, Declared, ReferenceDecl, references_of}
-use Rattle.rf_resolve.specs.Fault.{Passes}
+use Rattle.rf_resolve.specs.Passes.{Passes}
 use Rattle.rf_names.specs.LookUp.{class_named, opposite_of, opposites_named, the_first, the_number}
-use Rattle.rf_name_rules.specs.Places.{bad_opposite, bad_opposites_from, feature_names, is_same_number, kept_members, leads_back, no_reference_decl, reference_decl_at, repeated, unknown_class, unknown_opposite, unknown_reference}
+use Rattle.rf_name_rules.specs.RuleOffsets.{bad_opposite, bad_opposites_from, feature_names, is_same_number, reserved_members, leads_back, no_reference_decl, reference_decl_at, repeated, unknown_class, unknown_opposite, unknown_reference}
 use Rattle.rf_resolve.specs.Readable.{IsReadableDeclared}
 use Rattle.rf_resolve.specs.Resolved.{resolved_class, resolved_reference}
 use Rattle.rf_resolve.proofs.ClassesFit.{class_count}
-use Rattle.rf_resolve.proofs.ClearPlaces.{nil-parts, few-from_first_past, nil-each, place_if-nil}
+use Rattle.rf_resolve.proofs.ClearOffsets.{nil-parts, few-from_first_past, nil-each, offset_if-nil}
 use Rattle.rf_resolve.proofs.FreshNames.{AreFresh, AreFresh-apart, AreFresh-from_repeated}
 use Rattle.rf_resolve.proofs.NumberFacts.{class_below, members_below, same_numbers}
 use Rattle.rf_resolve.proofs.PairFacts.{AllPairs-append, AllPairs-map, AllPairs-nil, AllPairs-unmap}
@@ -40,7 +40,7 @@ sources_between n m (c ∷ cs) l = All-append (IsDeclaredBetween n m) (map (λ f
 abbrev AreNamedApart : ReferenceDecl → ReferenceDecl → Type 0
 AreNamedApart r s = r.source ≡ s.source → r.feature.name.text ≢ s.feature.name.text
 
-declared_apart : (n : ℕ) (cs : List ClassDecl) → All (λ c. AreFresh kept_members (feature_names c)) cs →
+declared_apart : (n : ℕ) (cs : List ClassDecl) → All (λ c. AreFresh reserved_members (feature_names c)) cs →
     AllPairs AreNamedApart (references_of n cs)
 declared_apart n [] fresh = AllPairs-nil AreNamedApart
 declared_apart n (c ∷ cs) fresh =
@@ -48,8 +48,8 @@ declared_apart n (c ∷ cs) fresh =
     AllPairs-append AreNamedApart (map (λ f. record { source = n; feature = f }) fs) (references_of (suc n) cs)
     (AllPairs-map AreNamedApart (λ f. record { source = n; feature = f }) fs
     (λ i j f before l same. AllPairs-unmap (λ (x y : Name). x.text ≢ y.text) (λ (f : Feature). f.name) fs
-    (AreFresh-apart kept_members (feature_names c) (All-head (λ c. AreFresh kept_members (feature_names c)) c cs fresh)) i j f before l))
-    (declared_apart (suc n) cs (All-tail (λ c. AreFresh kept_members (feature_names c)) c cs fresh))
+    (AreFresh-apart reserved_members (feature_names c) (All-head (λ c. AreFresh reserved_members (feature_names c)) c cs fresh)) i j f before l))
+    (declared_apart (suc n) cs (All-tail (λ c. AreFresh reserved_members (feature_names c)) c cs fresh))
     (All-map (λ r. All (AreNamedApart r) (references_of (suc n) cs)) (λ f. record { source = n; feature = f }) fs
     (λ i f b j s l same. (let later = (sources_between (suc n) (suc n + length cs) cs (omega arith) j s l).0 in absurd (omega arith))))
 
@@ -71,7 +71,7 @@ module _ (d : Declared) where
       leads_back d n r (Some s) ≡ true
   led_back n r None s none e = let never : ⊥ = cc in absurd never
   led_back n r (Some name) s none e = subst (λ o. leads_back d n r o ≡ true) e (true_from_not (leads_back d n r (opposite_of d r (Some name)))
-      (place_if-nil (not (leads_back d n r (opposite_of d r (Some name)))) name.at none))
+      (offset_if-nil (not (leads_back d n r (opposite_of d r (Some name)))) name.at none))
     where
       true_from_not : (b : Bool) → not b ≡ false → b ≡ true
       true_from_not true h = refl
@@ -140,8 +140,8 @@ references_fit d own passes readable =
       named = All-map (λ (r : Relation). CanBeQuoted r.name) (resolved_reference d) d.references readable.references;
       apart = AllPairs-map (λ (r s : Relation). r.source ≡ s.source → r.name ≢ s.name) (resolved_reference d) d.references
           (subst (AllPairs AreNamedApart) (sym own) (declared_apart 0 d.classes (λ k c l.
-          AreFresh-from_repeated kept_members (feature_names (get_or d.classes k c))
-          (nil-each (λ c. repeated kept_members (feature_names c)) d.classes (once d passes.twice).members k c l))));
+          AreFresh-from_repeated reserved_members (feature_names (get_or d.classes k c))
+          (nil-each (λ c. repeated reserved_members (feature_names c)) d.classes (once d passes.twice).members k c l))));
       sources = All-map (λ (r : Relation). r.source < length (map (resolved_class d) d.classes)) (resolved_reference d) d.references
           (λ k r l. (let all = sources_between 0 (length d.classes) d.classes (omega arith) in
           let within = (subst (All (IsDeclaredBetween 0 (length d.classes))) (sym own) all k r l).1 in omega arith));

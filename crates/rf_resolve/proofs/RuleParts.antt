@@ -4,9 +4,9 @@ use Rattle.std.specs.List.{flat_map}
 use Rattle.rf_syntax.specs.declared.name.Name.{Name}
 use Rattle.rf_names.specs.Declarations.{Declared}
 use Rattle.rf_names.specs.LookUp.{assertion_symbols, class_named, sense_of}
-use Rattle.rf_name_rules.specs.Places.{ambiguous_literal, ambiguous_opposite, ambiguous_places, ambiguous_symbol, feature_names, kept_members, kept_names, params_apart, repeated, twice_places, unknown_assertion, unknown_bound, unknown_class, unknown_literal, unknown_param_class, unknown_places, unknown_reference}
-use Rattle.rf_names.specs.LeastPlace.{places_in_literals}
-use Rattle.rf_resolve.proofs.ClearPlaces.{nil-parts, nil-each, place_if-nil}
+use Rattle.rf_name_rules.specs.RuleOffsets.{ambiguous_literal, ambiguous_opposite, ambiguous_offsets, ambiguous_symbol, feature_names, reserved_members, reserved_names, params_apart, repeated, twice_offsets, unknown_assertion, unknown_bound, unknown_class, unknown_literal, unknown_param_class, unknown_offsets, unknown_reference}
+use Rattle.rf_names.specs.Offsets.{offsets_in_literals}
+use Rattle.rf_resolve.proofs.ClearOffsets.{nil-parts, nil-each, offset_if-nil}
 
 module _ (d : Declared) where
   -- no name is unknown
@@ -15,16 +15,16 @@ module _ (d : Declared) where
     pub references : flat_map (unknown_reference d) d.references ≡ []
     pub params : flat_map (λ p. flat_map (λ param. unknown_param_class d param.class) p.params) d.predicates ≡ []
     pub bounds : flat_map (λ b. unknown_bound d b.name) d.bounds ≡ []
-    pub literals : places_in_literals (λ n. unknown_literal d) d.predicates ≡ []
+    pub literals : offsets_in_literals (λ n. unknown_literal d) d.predicates ≡ []
     pub assertions : flat_map (unknown_assertion d) d.assertions ≡ []
 
-  pub known : unknown_places d ≡ [] → AreKnown
+  pub known : unknown_offsets d ≡ [] → AreKnown
   known e =
       let in_supers : List ℕ = flat_map (λ c. flat_map (unknown_class d) c.supers) d.classes in
       let in_references : List ℕ = flat_map (unknown_reference d) d.references in
       let in_params : List ℕ = flat_map (λ p. flat_map (λ param. unknown_param_class d param.class) p.params) d.predicates in
       let in_bounds : List ℕ = flat_map (λ b. unknown_bound d b.name) d.bounds in
-      let in_literals : List ℕ = places_in_literals (λ n. unknown_literal d) d.predicates in
+      let in_literals : List ℕ = offsets_in_literals (λ n. unknown_literal d) d.predicates in
       let in_assertions : List ℕ = flat_map (unknown_assertion d) d.assertions in
       let last = nil-parts (in_supers ++ in_references ++ in_params ++ in_bounds ++ in_literals) in_assertions e in
       let fifth = nil-parts (in_supers ++ in_references ++ in_params ++ in_bounds) in_literals last.0 in
@@ -43,13 +43,13 @@ module _ (d : Declared) where
   -- none is ambiguous
   pub record AreClear : Type 0 where
     pub opposites : flat_map (λ r. ambiguous_opposite d r r.feature.opposite) d.references ≡ []
-    pub literals : places_in_literals (λ n. ambiguous_literal d) d.predicates ≡ []
+    pub literals : offsets_in_literals (λ n. ambiguous_literal d) d.predicates ≡ []
     pub assertions : flat_map (λ a. ambiguous_symbol (sense_of (assertion_symbols d a.atom.symbol)) a.atom.symbol) d.assertions ≡ []
 
-  pub clear : ambiguous_places d ≡ [] → AreClear
+  pub clear : ambiguous_offsets d ≡ [] → AreClear
   clear e =
       let in_references : List ℕ = flat_map (λ r. ambiguous_opposite d r r.feature.opposite) d.references in
-      let in_literals : List ℕ = places_in_literals (λ n. ambiguous_literal d) d.predicates in
+      let in_literals : List ℕ = offsets_in_literals (λ n. ambiguous_literal d) d.predicates in
       let in_assertions : List ℕ = flat_map (λ a. ambiguous_symbol (sense_of (assertion_symbols d a.atom.symbol)) a.atom.symbol) d.assertions in
       let last = nil-parts (in_references ++ in_literals) in_assertions e in
       let first = nil-parts in_references in_literals last.0 in
@@ -57,24 +57,24 @@ module _ (d : Declared) where
 
   -- none is declared twice
   pub record AreOnce : Type 0 where
-    pub names : repeated kept_names d.names ≡ []
-    pub members : flat_map (λ c. repeated kept_members (feature_names c)) d.classes ≡ []
+    pub names : repeated reserved_names d.names ≡ []
+    pub members : flat_map (λ c. repeated reserved_members (feature_names c)) d.classes ≡ []
     pub params : flat_map (λ p. repeated [] (params_apart p)) d.predicates ≡ []
 
-  pub once : twice_places d ≡ [] → AreOnce
+  pub once : twice_offsets d ≡ [] → AreOnce
   once e =
-      let in_members : List ℕ = flat_map (λ c. repeated kept_members (feature_names c)) d.classes in
+      let in_members : List ℕ = flat_map (λ c. repeated reserved_members (feature_names c)) d.classes in
       let in_params : List ℕ = flat_map (λ p. repeated [] (params_apart p)) d.predicates in
-      let last = nil-parts (repeated kept_names d.names ++ in_members) in_params e in
-      let first = nil-parts (repeated kept_names d.names) in_members last.0 in
+      let last = nil-parts (repeated reserved_names d.names ++ in_members) in_params e in
+      let first = nil-parts (repeated reserved_names d.names) in_members last.0 in
       record { names = first.0; members = first.1; params = last.1 }
 
   -- a name that isn't unknown is that of a class
   pub known_class : (n : Name) → unknown_class d n ≡ [] → is_none (class_named d n.text) ≡ false
-  known_class n e = place_if-nil (is_none (class_named d n.text)) n.at e
+  known_class n e = offset_if-nil (is_none (class_named d n.text)) n.at e
 
   pub known_supers :
-      unknown_places d ≡ [] → All (λ c. All (λ s. is_none (class_named d s.text) ≡ false) c.supers) d.classes
+      unknown_offsets d ≡ [] → All (λ c. All (λ s. is_none (class_named d s.text) ≡ false) c.supers) d.classes
   known_supers e k c l j s m =
       known_class (get_or (get_or d.classes k c).supers j s)
       (nil-each (unknown_class d) (get_or d.classes k c).supers

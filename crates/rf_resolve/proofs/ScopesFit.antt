@@ -6,11 +6,11 @@ use Rattle.std.proofs.lemmas.List.Elements.{All-map}
 use Rattle.rf_problem.specs.Valid.{AreScopes, IsSmall}
 use Rattle.rf_limits.specs.declared.kind.LimitKind.TheVariants.{Scopes}
 use Rattle.rf_names.specs.Declarations.{Declared}
-use Rattle.rf_resolve.specs.Fault.{Passes}
+use Rattle.rf_resolve.specs.Passes.{Passes}
 use Rattle.rf_resolve.specs.Readable.{IsReadableDeclared}
 use Rattle.rf_resolve.specs.Resolved.{resolved_class, resolved_scope}
 use Rattle.rf_resolve.proofs.ClassesFit.{class_count}
-use Rattle.rf_resolve.proofs.ClearPlaces.{few-from_first_past}
+use Rattle.rf_resolve.proofs.ClearOffsets.{few-from_first_past}
 use Rattle.rf_resolve.proofs.NumberFacts.{position_below}
 use Rattle.rf_resolve.proofs.SmallCounts.{IsSmall-range}
 

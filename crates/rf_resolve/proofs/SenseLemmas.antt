@@ -13,11 +13,11 @@ use Rattle.rf_syntax.specs.declared.name.SymbolName.{SymbolName}
 use Rattle.rf_syntax.specs.declared.predicate.BodyLiteral.TheVariants.{Call}
 use Rattle.rf_names.specs.Declarations.{Declared}
 use Rattle.rf_names.specs.LookUp.{class_named, extends_somehow, inherited_members, literal_symbols, members_of_some, no_class_decl, no_predicate_decl, own_members, own_or_inherited, predicate_named, reads, references_named, sense_of, symbol_of_some, symbols_named, symbols_or_members}
-use Rattle.rf_name_rules.specs.Places.{ambiguous_literal, bad_arity, fits_call, is_ambiguous, is_unknown, last_place, literal_arity, unknown_class, unknown_literal, unknown_symbol}
-use Rattle.rf_names.specs.LeastPlace.{place_if}
+use Rattle.rf_name_rules.specs.RuleOffsets.{ambiguous_literal, bad_arity, fits_call, is_ambiguous, is_unknown, last_offset, literal_arity, unknown_class, unknown_literal, unknown_symbol}
+use Rattle.rf_names.specs.Offsets.{offset_if}
 use Rattle.rf_names.specs.declared.sense.Sense.{Sense}
 use Rattle.rf_names.specs.declared.sense.Sense.TheVariants.{Nothing, One, Several}
-use Rattle.rf_resolve.proofs.ClearPlaces.{nil-right, place_if-nil}
+use Rattle.rf_resolve.proofs.ClearOffsets.{nil-right, offset_if-nil}
 use Rattle.rf_resolve.proofs.NegationLemmas.{numbers_where-below}
 
 -- all of two lists
@@ -53,16 +53,16 @@ one-from_clear (One s) known clear = (s, refl)
 one-from_clear Several known clear = absurd (true≢false clear)
 
 pub known-from_nil : (d : Declared) (sense : Sense) (name : Name) (member : Option Name) → unknown_symbol d sense name member ≡ [] → is_unknown sense ≡ false
-known-from_nil d sense name None e = place_if-nil (is_unknown sense) name.at e
+known-from_nil d sense name None e = offset_if-nil (is_unknown sense) name.at e
 known-from_nil d sense name (Some member) e =
-    place_if-nil (is_unknown sense) member.at (nil-right (unknown_class d name) (place_if (is_unknown sense) member.at) e)
+    offset_if-nil (is_unknown sense) member.at (nil-right (unknown_class d name) (offset_if (is_unknown sense) member.at) e)
 
 pub fits-from_nil :
     (d : Declared) (sense : Sense) (s : Symbol) (closure : Bool) (args at : ℕ) → sense ≡ One s → bad_arity d sense closure args at ≡ [] →
     fits_call d s closure args ≡ true
 fits-from_nil d sense s closure args at e none =
     not-false (fits_call d s closure args)
-    (place_if-nil (not (fits_call d s closure args)) at (ap (λ x. bad_arity d x closure args at) (sym e) ∙ none))
+    (offset_if-nil (not (fits_call d s closure args)) at (ap (λ x. bad_arity d x closure args at) (sym e) ∙ none))
 
 module _ (d : Declared) where
   -- whether a symbol stands for what is declared
@@ -120,7 +120,7 @@ module _ (d : Declared) where
       let sense : Sense = sense_of (literal_symbols d symbol) in
       let one =
       one-from_clear sense (known-from_nil d sense symbol.name symbol.member known)
-      (place_if-nil (is_ambiguous sense) (last_place symbol.name symbol.member) clear) in (
+      (offset_if-nil (is_ambiguous sense) (last_offset symbol.name symbol.member) clear) in (
         one.0,
         record {
           one = one.1;

@@ -5,15 +5,15 @@ use Rattle.rf_syntax.specs.declared.predicate.BodyLiteral.{BodyLiteral}
 use Rattle.rf_syntax.specs.declared.predicate.Param.{Param}
 use Rattle.rf_names.specs.Bodies.{clause_variables, first_name, param_names}
 use Rattle.rf_names.specs.Declarations.{Declared, PredicateDecl}
-use Rattle.rf_limits.specs.Limits.{first_past, limit_places}
+use Rattle.rf_limits.specs.Limits.{first_past, limit_offsets}
 use Rattle.rf_resolve.specs.Resolved.{all_literals, class_literals, resolved_literals}
 use Rattle.rf_resolve.specs.Small.{IsSmallClause, IsSmallPredicate}
 use Rattle.rf_limits.specs.declared.kind.LimitKind.{LimitKind}
 use Rattle.rf_limits.specs.declared.kind.LimitKind.TheVariants.{Literals, Parameters, Variables}
-use Rattle.rf_resolve.proofs.ClearPlaces.{few-from_first_past, nil-each, places_in_clauses-each}
+use Rattle.rf_resolve.proofs.ClearOffsets.{few-from_first_past, nil-each, offsets_in_clauses-each}
 use Rattle.rf_resolve.proofs.LiteralsFit.{length-class_literals, length-resolved_literals}
 
-module _ (d : Declared) (limits : (k : LimitKind) → limit_places d k ≡ []) where
+module _ (d : Declared) (limits : (k : LimitKind) → limit_offsets d k ≡ []) where
   few_params : All (λ p. first_past 4 (λ param. param.name) p.params ≡ []) d.predicates
   few_params = nil-each (λ (p : PredicateDecl). first_past 4 (λ param. param.name) p.params)
       d.predicates (limits Parameters)
@@ -27,11 +27,11 @@ module _ (d : Declared) (limits : (k : LimitKind) → limit_places d k ≡ []) w
         clauses = λ j c m. record {
           arity = params;
           literals = few-from_first_past first_name 32 (get_or p.clauses j c)
-              (places_in_clauses-each (λ n params clause. first_past 32 first_name clause) d.predicates
+              (offsets_in_clauses-each (λ n params clause. first_past 32 first_name clause) d.predicates
               (limits Literals) k e l j c m);
           variables = few-from_first_past (λ name. name) 8
               (clause_variables p.params (get_or p.clauses j c))
-              (places_in_clauses-each (λ n params clause. first_past 8 (λ name. name)
+              (offsets_in_clauses-each (λ n params clause. first_past 8 (λ name. name)
               (clause_variables params clause)) d.predicates (limits Variables) k e l j c m);
         };
       }

@@ -1,4 +1,5 @@
 pub mod Fault
+pub mod Passes
 pub mod Readable
 pub mod Resolved
 pub mod Small

@@ -1,5 +1,5 @@
 -- The problem that a text stands for: each list is that of its declarations in order, and each number
--- the place of what its name stands for.
+-- that of what its name stands for.
 use Rattle.std.specs.Prelude.{ℕ, Option, None, Some, map, List, [], ◌∷◌, false, suc, ◌++◌, ◌==◌, Bool, ◌&&◌, if◌then◌else◌, nat_lt, length, ◌≡◌}
 use Rattle.std.specs.List.{list_any, range_with_len}
 use Rattle.rf_syntax.specs.declared.range.Upper.{Upper}
@@ -76,7 +76,7 @@ resolved_reference d r = record {
   opposite = opposite_of d r r.feature.opposite;
 }
 
--- a literal behind these variables
+-- a literal after these variables
 abbrev pub resolved_literal : Declared → List Name → BodyLiteral → Literal
 resolved_literal d known (Call negated symbol closure args) =
     Calls negated closure (the_symbol (sense_of (literal_symbols d symbol))) (variable_numbers known args)
@@ -127,7 +127,7 @@ negation_around literals v =
 abbrev pub entry_of : ℕ → List Literal → ℕ → Option ℕ
 entry_of arity literals v = if nat_lt v arity then None else negation_around literals v
 
--- a clause: its literals as they are written, and behind them those of the typed parameters
+-- a clause: its literals as they are written, and after them those of the typed parameters
 abbrev pub all_literals : Declared → List Param → List BodyLiteral → List Literal
 all_literals d params clause = resolved_literals d (param_names params) clause ++ class_literals d 0 params
 

@@ -1,5 +1,6 @@
--- Clauses and predicates within the limits.
+-- For private functions: clauses and predicates within the limits.
 use Rattle.std.specs.Prelude.{◌≤◌, List, length, All}
+use Rattle.rf_bounds.specs.declared.TheConstants.{MOST_LITERALS, MOST_PARAMETERS, MOST_VARIABLES}
 use Rattle.rf_syntax.specs.declared.predicate.BodyLiteral.{BodyLiteral}
 use Rattle.rf_syntax.specs.declared.predicate.Param.{Param}
 use Rattle.rf_names.specs.Bodies.{clause_variables}
@@ -7,11 +8,11 @@ use Rattle.rf_names.specs.Declarations.{PredicateDecl}
 
 -- a clause has few parameters, literals and variables
 pub record IsSmallClause (params : List Param) (clause : List BodyLiteral) : Type 0 where
-  pub arity : length params ≤ 4
-  pub literals : length clause ≤ 32
-  pub variables : length (clause_variables params clause) ≤ 8
+  pub arity : length params ≤ MOST_PARAMETERS
+  pub literals : length clause ≤ MOST_LITERALS
+  pub variables : length (clause_variables params clause) ≤ MOST_VARIABLES
 
 -- so has each clause of a predicate
 pub record IsSmallPredicate (p : PredicateDecl) : Type 0 where
-  pub arity : length p.params ≤ 4
+  pub arity : length p.params ≤ MOST_PARAMETERS
   pub clauses : All (IsSmallClause p.params) p.clauses

@@ -1,4 +1,4 @@
--- Declarations of texts.
+-- For private functions: declarations of texts.
 use Rattle.std.specs.Prelude.{◌≡◌}
 use Rattle.rf_syntax.specs.declared.statement.Ast.{Ast}
 use Rattle.rf_names.specs.Declarations.{Declared, declared_in}

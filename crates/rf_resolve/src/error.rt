@@ -1,18 +1,14 @@
-ghost use Rattle.std.specs.Prelude.{◌≡◌};
-ghost use Rattle.rf_resolve.specs.declared.error.NameError.TheVariants.{Memory};
-
 use rf_limits::LimitKind;
-use std::alloc::{AllocError, AllocFailed};
 use thiserror::Error;
 
 /// Why the names of a text don't make a problem. The rules are asked in this order, and the number is
-/// the least byte place at which the first one that is broken is broken.
+/// the least byte offset at which the first one that is broken is broken.
 #[derive(Clone, Copy, Debug, PartialEq, Eq, Error)]
 pub enum NameError {
-    /// A name is declared that is declared earlier in its space, or that the language keeps.
+    /// A name is declared that is declared earlier in its space, or that the language reserves.
     #[error("declared twice")]
     Twice(u64),
-    /// A name stands for nothing of the kind that its place needs.
+    /// A name stands for nothing of the kind that is needed there.
     #[error("unknown name")]
     Unknown(u64),
     /// A symbol or a member stands for more than one.
@@ -21,7 +17,7 @@ pub enum NameError {
     /// A class extends itself, directly or through others.
     #[error("class extends itself")]
     ClassCycle(u64),
-    /// A name behind `opposite` stands for no reference that leads back and has this one as its own
+    /// A name after `opposite` stands for no reference that leads back and has this one as its own
     /// opposite.
     #[error("no opposite of the reference")]
     BadOpposite(u64),
@@ -32,10 +28,10 @@ pub enum NameError {
     /// The upper number of a range is less than the lower one.
     #[error("range without numbers")]
     BadRange(u64),
-    /// A symbol has not as many arguments as parameters, or a `+` behind it and not two parameters.
+    /// A symbol has not as many arguments as parameters, or a `+` after it and not two parameters.
     #[error("number of arguments")]
     Arity(u64),
-    /// A variable that is no parameter stands in negated literals only, and in several of them.
+    /// A variable that isn't a parameter stands in negated literals only, and in several of them.
     #[error("variable in several negations only")]
     LooseVariable(u64),
     /// A predicate calls itself, directly or through others.
@@ -47,22 +43,4 @@ pub enum NameError {
     /// The first one past a limit.
     #[error("limit")]
     Limit(LimitKind, u64),
-    #[error("out of memory")]
-    Memory,
-}
-
-impl From<AllocError> for NameError {
-    ghost from_gives = { λ _ e. e ≡ Memory };
-
-    fn from(_: AllocError) -> NameError {
-        NameError::Memory
-    }
-}
-
-impl<T: Drop> From<AllocFailed<T>> for NameError {
-    ghost from_gives = { λ _ e. e ≡ Memory };
-
-    fn from(_: AllocFailed<T>) -> NameError {
-        NameError::Memory
-    }
 }

@@ -4,9 +4,9 @@ ghost use Rattle.std.specs.Prelude.{◌≡◌, ◌∷◌, [], IfOk};
 ghost use Rattle.std.specs.Option.{option_map};
 ghost use Rattle.rf_limits.specs.Limits.{earliest, limit_kinds};
 ghost use Rattle.rf_resolve.specs.Fault.{fault_of, first_of, limit_error};
-ghost use Rattle.rf_names.specs.LeastPlace.{least_of};
-ghost use Rattle.rf_name_rules.specs.Places.{ambiguous_places, arity_places, bad_container_places, bad_opposite_places, bad_range_places, cycle_places, equals_two_places, twice_places, unknown_places};
-ghost use Rattle.rf_clause_rules.specs.ClausePlaces.{loose_places, recursive_places};
+ghost use Rattle.rf_names.specs.Offsets.{least_of};
+ghost use Rattle.rf_name_rules.specs.RuleOffsets.{ambiguous_offsets, arity_offsets, bad_container_offsets, bad_opposite_offsets, bad_range_offsets, cycle_offsets, equals_two_offsets, twice_offsets, unknown_offsets};
+ghost use Rattle.rf_clause_rules.specs.ClauseOffsets.{loose_offsets, recursive_offsets};
 ghost use Rattle.rf_resolve.specs.declared.error.NameError.TheVariants.{Ambiguous, Arity, BadContainer, BadOpposite, BadRange, ClassCycle, EqualsTwo, LooseVariable, Recursive, Twice, Unknown};
 
 use crate::NameError;
@@ -19,7 +19,7 @@ use rf_name_rules::{
 use rf_names::Names;
 use std::alloc::{AllocError, Global};
 
-/// The first rule that is broken, with its least place. A rule is asked only where those in front
+/// The first rule that is broken, with its least offset. A rule is asked only where those before it
 /// of it hold.
 pub fn first_fault(alloc: Global, names: &Names<'_>) -> Result<Option<NameError>, AllocError>
     ensures { IfOk result (λ e. e ≡ fault_of names.now.declared.now) }
@@ -38,9 +38,9 @@ pub fn first_fault(alloc: Global, names: &Names<'_>) -> Result<Option<NameError>
 
 fn fault_of_names(alloc: Global, names: &Names<'_>) -> Result<Option<NameError>, AllocError>
     ensures { IfOk result (λ e. e ≡ first_of (
-        option_map Twice (least_of (twice_places names.now.declared.now))
-        ∷ option_map Unknown (least_of (unknown_places names.now.declared.now))
-        ∷ option_map Ambiguous (least_of (ambiguous_places names.now.declared.now))
+        option_map Twice (least_of (twice_offsets names.now.declared.now))
+        ∷ option_map Unknown (least_of (unknown_offsets names.now.declared.now))
+        ∷ option_map Ambiguous (least_of (ambiguous_offsets names.now.declared.now))
         ∷ [])) }
 {
     if let Some(at) = twice(alloc, names.declared)? {
@@ -57,10 +57,10 @@ fn fault_of_names(alloc: Global, names: &Names<'_>) -> Result<Option<NameError>,
 
 fn fault_of_classes(alloc: Global, names: &Names<'_>) -> Result<Option<NameError>, AllocError>
     ensures { IfOk result (λ e. e ≡ first_of (
-        option_map ClassCycle (least_of (cycle_places names.now.declared.now))
-        ∷ option_map BadOpposite (least_of (bad_opposite_places names.now.declared.now))
-        ∷ option_map BadContainer (least_of (bad_container_places names.now.declared.now))
-        ∷ option_map BadRange (least_of (bad_range_places names.now.declared.now))
+        option_map ClassCycle (least_of (cycle_offsets names.now.declared.now))
+        ∷ option_map BadOpposite (least_of (bad_opposite_offsets names.now.declared.now))
+        ∷ option_map BadContainer (least_of (bad_container_offsets names.now.declared.now))
+        ∷ option_map BadRange (least_of (bad_range_offsets names.now.declared.now))
         ∷ [])) }
 {
     if let Some(at) = class_cycle(alloc, names)? {
@@ -80,9 +80,9 @@ fn fault_of_classes(alloc: Global, names: &Names<'_>) -> Result<Option<NameError
 
 fn fault_of_predicates(alloc: Global, names: &Names<'_>) -> Result<Option<NameError>, AllocError>
     ensures { IfOk result (λ e. e ≡ first_of (
-        option_map Arity (least_of (arity_places names.now.declared.now))
-        ∷ option_map LooseVariable (least_of (loose_places names.now.declared.now))
-        ∷ option_map Recursive (least_of (recursive_places names.now.declared.now))
+        option_map Arity (least_of (arity_offsets names.now.declared.now))
+        ∷ option_map LooseVariable (least_of (loose_offsets names.now.declared.now))
+        ∷ option_map Recursive (least_of (recursive_offsets names.now.declared.now))
         ∷ [])) }
 {
     if let Some(at) = arity(alloc, names)? {
@@ -99,7 +99,7 @@ fn fault_of_predicates(alloc: Global, names: &Names<'_>) -> Result<Option<NameEr
 
 fn fault_of_rest(alloc: Global, names: &Names<'_>) -> Result<Option<NameError>, AllocError>
     ensures { IfOk result (λ e. e ≡ first_of (
-        option_map EqualsTwo (least_of (equals_two_places names.now.declared.now))
+        option_map EqualsTwo (least_of (equals_two_offsets names.now.declared.now))
         ∷ option_map limit_error (earliest names.now.declared.now limit_kinds)
         ∷ [])) }
 {

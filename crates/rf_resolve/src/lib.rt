@@ -1,10 +1,10 @@
 //! Names: from the statement tree of a text to the problem that it stands for.
 //!
-//! `resolve` goes three ways, one behind another:
+//! `resolve` goes three ways, one after another:
 //!
 //! 1. What is declared, and what names stand for: `rf_names`.
 //! 2. Rules. `first_fault` asks each rule of names in turn (`rf_name_rules`, `rf_clause_rules`), those
-//!    of limits last (`rf_limits`). Of the first that is broken the least place is the fault. Their
+//!    of limits last (`rf_limits`). Of the first that is broken the least offset is the fault. Their
 //!    order is `specs/Fault`.
 //! 3. Building. Where no rule is broken, each list of the problem is made of the declarations of its
 //!    kind, and `Problem::new` takes them: that the parts fit is proved, so it never refuses them.

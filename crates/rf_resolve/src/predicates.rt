@@ -2,14 +2,14 @@
 
 ghost use Rattle.std.specs.Prelude.{◌≡◌, ◌≤◌, ◌++◌, ◌∷◌, [], All, IfOk, OnOk, length, map};
 ghost use Rattle.rf_names.specs.Bodies.{clause_names, clause_variables, literal_names, variable_number, with_variable, with_variables};
-ghost use Rattle.rf_resolve.specs.Fault.{Passes};
+ghost use Rattle.rf_resolve.specs.Passes.{Passes};
 ghost use Rattle.rf_resolve.specs.Resolved.{all_literals, class_literal, class_literals, resolved_clause, resolved_literal, resolved_literals, resolved_predicate};
 ghost use Rattle.rf_names.specs.LookUp.{the_number, the_symbol};
 ghost use Rattle.rf_resolve.specs.Small.{IsSmallClause, IsSmallPredicate};
 
 use crate::entries::entries;
 use crate::variables::Variables;
-use rf_names::{ClauseForm, Names, PredicateForm, Sense};
+use rf_names::{ClauseDeclaration, Names, PredicateDeclaration, Sense};
 use rf_problem::{Clause, Literal, Predicate, Symbol};
 use rf_syntax::{BodyLiteral, Name, Param};
 use rf_text::Items;
@@ -154,7 +154,7 @@ fn clause_of<'a>(
     alloc: Global,
     names: &Names,
     params: &'a [Param],
-    clause: &ClauseForm<'a>,
+    clause: &ClauseDeclaration<'a>,
 ) -> Result<Clause, AllocError>
     requires { IsSmallClause params.now clause.now }
     ensures { IfOk result (λ c. c ≡ resolved_clause names.now.declared.now params.now clause.now) }
@@ -174,7 +174,7 @@ fn clauses_of<'a>(
     alloc: Global,
     names: &Names,
     params: &'a [Param],
-    clauses: &[ClauseForm<'a>],
+    clauses: &[ClauseDeclaration<'a>],
 ) -> Result<Vec<Clause>, AllocError>
     requires { All (IsSmallClause params.now) clauses.now }
     ensures { IfOk result (λ v. v.items
@@ -190,7 +190,7 @@ fn clauses_of<'a>(
 fn predicate_of(
     alloc: Global,
     names: &Names,
-    predicate: &PredicateForm,
+    predicate: &PredicateDeclaration,
 ) -> Result<Predicate, AllocError>
     requires { IsSmallPredicate predicate.now }
     ensures { IfOk result (λ p. p ≡ resolved_predicate names.now.declared.now predicate.now) }
@@ -209,7 +209,7 @@ fn predicate_of(
 fn predicates_of(
     alloc: Global,
     names: &Names,
-    predicates: &[PredicateForm],
+    predicates: &[PredicateDeclaration],
 ) -> Result<Vec<Predicate>, AllocError>
     requires { All IsSmallPredicate predicates.now }
     ensures { IfOk result (λ v. v.items

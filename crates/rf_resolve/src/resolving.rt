@@ -1,5 +1,5 @@
-ghost use Rattle.std.specs.Prelude.{◌≡◌, ◌≢◌, ◌⊎◌, ℕ, IfOk, IfErr, MatchResult, None, Some};
-ghost use Rattle.rf_problem.specs.declared.problem.Problem.{Problem};
+ghost use Rattle.std.specs.Prelude.{◌≡◌, IfOk, IfErr, None, Some};
+ghost use Rattle.rf_failure.specs.Answers.{Answers, IfFault};
 ghost use Rattle.rf_resolve.specs.Fault.{NameFault, Resolves, fault_of};
 ghost use Rattle.rf_resolve.specs.Readable.{IsReadableTree};
 ghost use Rattle.rf_resolve.specs.Resolved.{IsResolved};
@@ -13,6 +13,7 @@ use crate::building::references::resolved_references;
 use crate::building::scopes::resolved_scopes;
 use crate::faults::first_fault;
 use crate::predicates::resolved_predicates;
+use rf_failure::Failure;
 use rf_names::{Declarations, Names};
 use rf_problem::Problem;
 use rf_syntax::Ast;
@@ -37,31 +38,25 @@ fn problem_of(alloc: Global, names: &Names) -> Result<Problem, AllocError>
 }
 
 // The problem of these declarations, or the first rule that is broken.
-fn resolve_declared(alloc: Global, declared: &Declarations) -> Result<Problem, NameError>
+fn resolve_declared(alloc: Global, declared: &Declarations) -> Result<Problem, Failure<NameError>>
     requires { IsOfText declared.now }
     ensures sound { IfOk result (λ p. fault_of declared.now ≡ None) }
     ensures ok { IfOk result (λ p. IsResolved declared.now p) }
-    ensures fault { IfErr result (λ e.
-        (e ≡ NameError.Memory) ⊎ (fault_of declared.now ≡ Some e)) }
+    ensures fault { IfErr result (λ e. IfFault e (λ f. fault_of declared.now ≡ Some f)) }
 {
     let names = Names::of(alloc, declared)?;
     if let Some(fault) = first_fault(alloc, &names)? {
-        return Err(fault);
+        return Err(Failure::Fault(fault));
     }
     let problem = problem_of(alloc, &names)?;
     Ok(problem)
 }
 
-/// The problem that a tree stands for: each list is that of its declarations in order, each number the
-/// place of what a name stands for.
-pub fn resolve(alloc: Global, ast: &Ast) -> Result<Problem, NameError>
+/// The problem that a tree stands for: each list is that of its declarations in order, each number
+/// that of what a name stands for. A tree has exactly one problem, or one fault.
+pub fn resolve(alloc: Global, ast: &Ast) -> Result<Problem, Failure<NameError>>
     requires { IsReadableTree ast.now }
-    ensures ok { IfOk result (λ p. Resolves ast.now p) }
-    ensures found { (p : Problem) → Resolves ast.now p
-        → MatchResult result (λ q. q ≡ p) (λ e. e ≡ NameError.Memory) }
-    ensures fault { IfErr result (λ e. e ≢ NameError.Memory → NameFault ast.now e) }
-    ensures stuck { (e : NameError) → NameFault ast.now e
-        → (result ≡ Err e) ⊎ (result ≡ Err NameError.Memory) }
+    ensures answers { Answers (λ p. p) (Resolves ast.now) (NameFault ast.now) result }
 {
     let declared = Declarations::of(alloc, ast)?;
     resolve_declared(alloc, &declared)

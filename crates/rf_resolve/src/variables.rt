@@ -9,7 +9,7 @@ use rf_syntax::{Name, Param};
 use std::alloc::{AllocError, Global};
 use std::marker::Model;
 
-fn place_among(names: &[&Name], text: &str) -> Option<usize>
+fn position_among(names: &[&Name], text: &str) -> Option<usize>
     ensures { result ≡ position (λ n. reads text.now n.now) names.now }
 {
     names.iter().position(|name| reads(text, *name))
@@ -46,10 +46,10 @@ impl<'a> Variables<'a> {
     }
 
     // The first known variable of this name.
-    fn place_of(&self, text: &str) -> Option<usize>
+    fn position_of(&self, text: &str) -> Option<usize>
         ensures { result ≡ position (reads text.now) self.now }
     {
-        place_among(self.names.as_slice(), text)
+        position_among(self.names.as_slice(), text)
     }
 
     // The number of the known variable that a name stands for.
@@ -61,7 +61,7 @@ impl<'a> Variables<'a> {
         if is_blank(name) {
             None
         } else {
-            self.place_of(name.text.as_str())
+            self.position_of(name.text.as_str())
         }
     }
 

@@ -20,7 +20,7 @@ use Rattle.rf_text.specs.Identifier.{EachPasses, IsIdentifier, is_in_quotes}
 use Rattle.rf_text.specs.Written.{CanBeQuoted}
 use Rattle.rf_text.proofs.IdentifierLemmas.{identifier_continues, identifier_told, none_fails}
 
--- a character of ASCII that passes a test, as none of the text does, stands nowhere in its bytes
+-- a character of ASCII that passes a test, as none of the text does, is nowhere in its bytes
 lacks : (p : ℕ → Bool) (x : ℕ) (cs : List ℕ) → x < 128 → p x ≡ true → NonePass p cs → All (λ b. b ≢ x) (encode_utf8_all cs)
 lacks p x cs low passes none k d h same =
     let here : get_or (encode_utf8_all cs) k 0 ≡ x = sym (get_or_default (encode_utf8_all cs) k d 0 h) ∙ same in

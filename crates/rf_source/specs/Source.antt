@@ -10,7 +10,7 @@ use Rattle.rf_problem.specs.declared.problem.Problem.{Problem}
 use Rattle.rf_resolve.specs.Fault.{NameFault, Resolves}
 use Rattle.rf_syntax.specs.declared.statement.Ast.{Ast}
 use Rattle.rf_source.specs.declared.error.SourceError.{SourceError}
-use Rattle.rf_source.specs.declared.error.SourceError.TheVariants.{NotUtf8, Lexical, Unexpected, Names, Memory}
+use Rattle.rf_source.specs.declared.error.SourceError.TheVariants.{NotUtf8, Lexical, Unexpected, Names}
 
 -- the bytes are UTF-8, and their text is these tokens
 pub record IsLexed (bytes : List ℕ) (tokens : List Token) : Type 0 where
@@ -29,21 +29,20 @@ pub record IsSource (bytes : List ℕ) (p : Problem) : Type 0 where
   pub parsed : IsParsed bytes ast
   pub resolved : Resolves ast p
 
--- the byte place of the token of this number, or the end of the text behind the last one
-abbrev pub place_of_token : List Token → ℕ → ℕ → ℕ
-place_of_token tokens end k = slice_index_or (map (λ token. token.start) tokens) k end
+-- the byte offset of the token of this number, or the end of the text after the last one
+abbrev pub offset_of_token : List Token → ℕ → ℕ → ℕ
+offset_of_token tokens end k = slice_index_or (map (λ token. token.start) tokens) k end
 
--- the tokens of the bytes are no text of the grammar, and this is the first that none has there
+-- the tokens of the bytes are not a text of the grammar, and this is the first that none has there
 pub record IsUnexpected (bytes : List ℕ) (token at : ℕ) : Type 0 where
   pub tokens : List Token
   pub lexed : IsLexed bytes tokens
   pub refused : IsFirstRefused tokens token
-  pub place : at ≡ place_of_token tokens (length bytes) token
+  pub offset : at ≡ offset_of_token tokens (length bytes) token
 
--- why bytes are no problem: the first stage that refuses them decides
+-- why bytes are not a problem: the first stage that refuses them decides
 abbrev pub SourceFault : List ℕ → SourceError → Type 0
 SourceFault bytes (NotUtf8 at) = (IsUtf8 bytes → ⊥) × IsValidUpTo bytes at
 SourceFault bytes (Lexical e) = IsUtf8 bytes × LexFault bytes e
 SourceFault bytes (Unexpected token at) = IsUnexpected bytes token at
 SourceFault bytes (Names e) = (ast : Ast) × IsParsed bytes ast × NameFault ast e
-SourceFault bytes Memory = ⊥

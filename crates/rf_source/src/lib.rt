@@ -2,9 +2,7 @@
 #![tactic(auto)]
 
 mod error;
-mod reading;
-#[cfg(test)]
-mod tests;
+mod source;
 
 pub use error::SourceError;
-pub use reading::read_source;
+pub use source::read_source;

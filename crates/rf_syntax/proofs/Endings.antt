@@ -37,7 +37,7 @@ use Rattle.rf_syntax.specs.Class.{feature_pieces, feature_word_pieces, with_mult
 use Rattle.rf_syntax.specs.Laws.{EndsOnce, StatementEndsOnce, StatementsAreApart, ends_statement, first_of_statement}
 use Rattle.rf_syntax.specs.Name.{name_pieces, symbol_pieces}
 use Rattle.rf_syntax.specs.Piece.{Piece, kinds_of, terminal}
-use Rattle.rf_syntax.specs.Parts.{each_behind, flagged, in_parens, optional, optional_behind, separated, separated_or_none}
+use Rattle.rf_syntax.specs.Parts.{each_after, flagged, in_parens, optional, optional_after, separated, separated_or_none}
 use Rattle.rf_syntax.specs.Predicate.{clause_pieces, literal_pieces, param_pieces, start_pieces}
 use Rattle.rf_syntax.specs.Range.{mult_pieces, range_pieces, upper_pieces}
 use Rattle.rf_syntax.specs.Statement.{bound_pieces, item_pieces, spelled_statement}
@@ -45,7 +45,7 @@ use Rattle.rf_syntax.specs.Terminals.{abstract_word, class_word, declare_word, d
 use Rattle.rf_syntax.proofs.Beginnings.{statement_begins}
 use Rattle.rf_syntax.proofs.Joined.{kinds_joined}
 
--- whether a statement goes on behind a kind
+-- whether a statement goes on after a kind
 abbrev goes_on : Kind → Bool
 goes_on kind = not (ends_statement kind)
 
@@ -57,11 +57,11 @@ record Inside (pieces : List Piece) : Type 0 where
 nothing : Inside []
 nothing = record { passed = refl }
 
-behind : {piece : Piece} {pieces : List Piece} → goes_on piece.kind ≡ true → Inside pieces → Inside (piece ∷ pieces)
-behind {piece} {pieces} h rest = record { passed = and_from (goes_on piece.kind) (list_all goes_on (kinds_of pieces)) h rest.passed }
+after : {piece : Piece} {pieces : List Piece} → goes_on piece.kind ≡ true → Inside pieces → Inside (piece ∷ pieces)
+after {piece} {pieces} h rest = record { passed = and_from (goes_on piece.kind) (list_all goes_on (kinds_of pieces)) h rest.passed }
 
 alone : {piece : Piece} → goes_on piece.kind ≡ true → Inside (piece ∷ [])
-alone h = behind h nothing
+alone h = after h nothing
 
 -- two of them joined are one
 all_joined : (xs ys : List Piece) → list_all goes_on (kinds_of xs) ≡ true → list_all goes_on (kinds_of ys) ≡ true → list_all goes_on (kinds_of (xs ++ ys)) ≡ true
@@ -83,44 +83,44 @@ module _ {T : Type 0} {pieces : T → List Piece} (inner : (part : T) → Inside
   in_optional None = nothing
   in_optional (Some part) = inner part
 
-  in_optional_behind : (kind : Kind) → goes_on kind ≡ true → (part : Option T) → Inside (optional_behind kind pieces part)
-  in_optional_behind kind h None = nothing
-  in_optional_behind kind h (Some part) = behind h (inner part)
+  in_optional_after : (kind : Kind) → goes_on kind ≡ true → (part : Option T) → Inside (optional_after kind pieces part)
+  in_optional_after kind h None = nothing
+  in_optional_after kind h (Some part) = after h (inner part)
 
   in_each : (parts : List T) → Inside (flat_map pieces parts)
   in_each [] = nothing
   in_each (part ∷ parts) = join (inner part) (in_each parts)
 
-  in_each_behind : (kind : Kind) → goes_on kind ≡ true → (parts : List T) → Inside (each_behind kind pieces parts)
-  in_each_behind kind h [] = nothing
-  in_each_behind kind h (part ∷ parts) = join (behind h (inner part)) (in_each_behind kind h parts)
+  in_each_after : (kind : Kind) → goes_on kind ≡ true → (parts : List T) → Inside (each_after kind pieces parts)
+  in_each_after kind h [] = nothing
+  in_each_after kind h (part ∷ parts) = join (after h (inner part)) (in_each_after kind h parts)
 
   in_separated : (kind : Kind) → goes_on kind ≡ true → (parts : NonEmpty T) → Inside (separated kind pieces parts)
-  in_separated kind h parts = join (inner parts.first) (in_each_behind kind h parts.rest)
+  in_separated kind h parts = join (inner parts.first) (in_each_after kind h parts.rest)
 
   in_separated_or_none : (kind : Kind) → goes_on kind ≡ true → (parts : List T) → Inside (separated_or_none kind pieces parts)
   in_separated_or_none kind h [] = nothing
-  in_separated_or_none kind h (part ∷ parts) = join (inner part) (in_each_behind kind h parts)
+  in_separated_or_none kind h (part ∷ parts) = join (inner part) (in_each_after kind h parts)
 
 in_parentheses : {inner : List Piece} → Inside inner → Inside (in_parens inner)
-in_parentheses h = join (behind refl h) (alone refl)
+in_parentheses h = join (after refl h) (alone refl)
 
 in_name : (n : Name) → Inside (name_pieces n)
 in_name n = elim n.quoted as (λ q. Inside (record { kind = (if q then Quoted n.text else Identifier n.text); at = Some n.at } ∷ [])) [ true ↦ alone refl | false ↦ alone refl ]
 
 in_symbol : (s : SymbolName) → Inside (symbol_pieces s)
-in_symbol s = join (in_name s.name) (in_optional_behind in_name colon_colon refl s.member)
+in_symbol s = join (in_name s.name) (in_optional_after in_name colon_colon refl s.member)
 
 in_upper : (u : Upper) → Inside (upper_pieces u)
 in_upper NoUpper = nothing
-in_upper StarUpper = behind refl (alone refl)
-in_upper (Number n) = behind refl (alone refl)
+in_upper StarUpper = after refl (alone refl)
+in_upper (Number n) = after refl (alone refl)
 
 in_range : (r : Range) → Inside (range_pieces r)
-in_range r = behind refl (in_upper r.hi)
+in_range r = after refl (in_upper r.hi)
 
 in_mult : (m : Mult) → Inside (mult_pieces m)
-in_mult m = join (behind refl (in_optional in_range m.range)) (alone refl)
+in_mult m = join (after refl (in_optional in_range m.range)) (alone refl)
 
 in_feature_word : (w : FeatureWord) → Inside (feature_word_pieces w)
 in_feature_word Contains = alone refl
@@ -136,7 +136,7 @@ in_feature : (f : Feature) → Inside (feature_pieces f)
 in_feature f =
     let word = in_optional in_feature_word f.word in
     let named = join (join word (in_name f.target)) (in_with_mult f.mult f.name) in
-    join (join named (in_optional_behind in_name opposite_word refl f.opposite)) (in_flagged f.semicolon semicolon refl)
+    join (join named (in_optional_after in_name opposite_word refl f.opposite)) (in_flagged f.semicolon semicolon refl)
 
 in_param : (p : Param) → Inside (param_pieces p)
 in_param p = join (in_optional in_name p.class) (in_name p.name)
@@ -144,8 +144,8 @@ in_param p = join (in_optional in_name p.class) (in_name p.name)
 in_literal : (l : BodyLiteral) → Inside (literal_pieces l)
 in_literal (Call negated symbol closure args) =
     join (join (join (in_flagged negated bang refl) (in_symbol symbol)) (in_flagged closure plus refl)) (in_parentheses (in_separated_or_none in_name comma refl args))
-in_literal (Same left right) = join (in_name left) (behind refl (in_name right))
-in_literal (Differ left right) = join (in_name left) (behind refl (in_name right))
+in_literal (Same left right) = join (in_name left) (after refl (in_name right))
+in_literal (Differ left right) = join (in_name left) (after refl (in_name right))
 
 in_clause : (literals : NonEmpty BodyLiteral) → Inside (clause_pieces literals)
 in_clause literals = in_separated in_literal comma refl literals
@@ -153,7 +153,7 @@ in_clause literals = in_separated in_literal comma refl literals
 in_start : (start : PredicateWord) → Inside (start_pieces start)
 in_start Pred = alone refl
 in_start Error = alone refl
-in_start ErrorPred = behind refl (alone refl)
+in_start ErrorPred = after refl (alone refl)
 
 in_arg : (a : Arg) → Inside (arg_pieces a)
 in_arg Star = alone refl
@@ -170,55 +170,55 @@ in_value ErrorValue = alone refl
 
 in_assertion : (a : AssertionForm) → Inside (assertion_pieces a)
 in_assertion (Plain atom) = in_atom atom
-in_assertion (Not atom) = behind refl (in_atom atom)
-in_assertion (Maybe atom) = behind refl (in_atom atom)
-in_assertion (Valued atom value) = join (in_atom atom) (behind refl (in_value value))
+in_assertion (Not atom) = after refl (in_atom atom)
+in_assertion (Maybe atom) = after refl (in_atom atom)
+in_assertion (Valued atom value) = join (in_atom atom) (after refl (in_value value))
 
 in_item : (i : Item) → Inside (item_pieces i)
-in_item i = join (in_name i.name) (in_optional_behind in_range equal refl i.range)
+in_item i = join (in_name i.name) (in_optional_after in_range equal refl i.range)
 
 in_equal : (only_new : Bool) → goes_on (if only_new then plus_equal else equal) ≡ true
 in_equal true = refl
 in_equal false = refl
 
 in_bound : (b : Bound) → Inside (bound_pieces b)
-in_bound b = join (in_name b.name) (behind (in_equal b.only_new) (in_range b.range))
+in_bound b = join (in_name b.name) (after (in_equal b.only_new) (in_range b.range))
 
 -- pieces within a statement, and one that ends it
-ended_at : {pieces front : List Piece} (last : Kind) → pieces ≡ front ++ terminal last ∷ [] → ends_statement last ≡ true → Inside front → EndsOnce (kinds_of pieces)
-ended_at {pieces} {front} last e h inside = record {
-  front = kinds_of front;
+ended_at : {pieces prefix : List Piece} (last : Kind) → pieces ≡ prefix ++ terminal last ∷ [] → ends_statement last ≡ true → Inside prefix → EndsOnce (kinds_of pieces)
+ended_at {pieces} {prefix} last e h inside = record {
+  prefix = kinds_of prefix;
   last = last;
-  joined = ap (λ (ps : List Piece). kinds_of ps) e ∙ kinds_joined front (terminal last ∷ []);
+  joined = ap (λ (ps : List Piece). kinds_of ps) e ∙ kinds_joined prefix (terminal last ∷ []);
   inside = inside.passed;
   ended = h;
 }
 
-ended : {front : List Piece} (last : Kind) → ends_statement last ≡ true → Inside front → EndsOnce (kinds_of (front ++ terminal last ∷ []))
+ended : {prefix : List Piece} (last : Kind) → ends_statement last ≡ true → Inside prefix → EndsOnce (kinds_of (prefix ++ terminal last ∷ []))
 ended last h inside = ended_at last refl h inside
 
--- the pieces of a class in front of its body
+-- the pieces of a class before its body
 abbrev head_of_class : Bool → Name → Option (NonEmpty Name) → List Piece
 head_of_class is_abstract name supers =
-    flagged is_abstract abstract_word ++ terminal class_word ∷ name_pieces name ++ optional_behind extends_word (separated comma name_pieces) supers
+    flagged is_abstract abstract_word ++ terminal class_word ∷ name_pieces name ++ optional_after extends_word (separated comma name_pieces) supers
 
 in_head : (is_abstract : Bool) (name : Name) (supers : Option (NonEmpty Name)) → Inside (head_of_class is_abstract name supers)
 in_head is_abstract name supers =
-    join (join (in_flagged is_abstract abstract_word refl) (behind refl (in_name name))) (in_optional_behind (in_separated in_name comma refl) extends_word refl supers)
+    join (join (in_flagged is_abstract abstract_word refl) (after refl (in_name name))) (in_optional_after (in_separated in_name comma refl) extends_word refl supers)
 
 pub statement_ends : StatementEndsOnce
 statement_ends (Class is_abstract name supers None) = ended dot refl (in_head is_abstract name supers)
 statement_ends (Class is_abstract name supers (Some features)) =
     ended_at right_brace (sym (append_assoc (head_of_class is_abstract name supers) (terminal left_brace ∷ flat_map feature_pieces features) (terminal right_brace ∷ []))) refl
-    (join (in_head is_abstract name supers) (behind refl (in_each in_feature features)))
+    (join (in_head is_abstract name supers) (after refl (in_each in_feature features)))
 statement_ends (Predicate start name params clauses) =
     ended dot refl
     (join
     (join (join (in_start start) (in_name name)) (in_parentheses (in_separated_or_none in_param comma refl params)))
-    (behind refl (in_separated in_clause semicolon refl clauses)))
-statement_ends (Declare names) = ended dot refl (behind {piece = terminal declare_word} refl (in_separated in_name comma refl names))
-statement_ends (Multi items) = ended dot refl (behind {piece = terminal multi_word} refl (in_separated in_item comma refl items))
-statement_ends (Scope bounds) = ended dot refl (behind {piece = terminal scope_word} refl (in_separated in_bound comma refl bounds))
+    (after refl (in_separated in_clause semicolon refl clauses)))
+statement_ends (Declare names) = ended dot refl (after {piece = terminal declare_word} refl (in_separated in_name comma refl names))
+statement_ends (Multi items) = ended dot refl (after {piece = terminal multi_word} refl (in_separated in_item comma refl items))
+statement_ends (Scope bounds) = ended dot refl (after {piece = terminal scope_word} refl (in_separated in_bound comma refl bounds))
 statement_ends (Assert is_default assertion) = ended dot refl (join (in_flagged is_default default_word refl) (in_assertion assertion))
 
 -- no kind both ends a statement and goes on
@@ -226,7 +226,7 @@ clash : (ends : Bool) → ends ≡ true → not ends ≡ true → ⊥
 clash true h k = true≢false (sym k)
 clash false h k = true≢false (sym h)
 
--- two lists of kinds that go on behind a first end have the same kinds up to it, and behind it
+-- two lists of kinds that go on after a first end have the same kinds up to it, and after it
 first_end : (xs ys : List Kind) (x y : Kind) (more rest : List Kind) → list_all goes_on xs ≡ true → list_all goes_on ys ≡ true → ends_statement x ≡ true → ends_statement y ≡ true
     → xs ++ x ∷ more ≡ ys ++ y ∷ rest → (xs ++ x ∷ [] ≡ ys ++ y ∷ []) × (more ≡ rest)
 first_end [] [] x y more rest h k m n e = (cc, cc)
@@ -238,15 +238,15 @@ first_end (a ∷ xs) [] x y more rest h k m n e =
     absurd (clash (ends_statement a) (ap ends_statement same ∙ n) (and_parts (goes_on a) (list_all goes_on xs) h).0)
 first_end (a ∷ xs) (b ∷ ys) x y more rest h k m n e =
     let same : a ≡ b = cc in
-    let behind_it : xs ++ x ∷ more ≡ ys ++ y ∷ rest = cc in
+    let after_it : xs ++ x ∷ more ≡ ys ++ y ∷ rest = cc in
     let left = (and_parts (goes_on a) (list_all goes_on xs) h).1 in
     let right = (and_parts (goes_on b) (list_all goes_on ys) k).1 in
-    let both = first_end xs ys x y more rest left right m n behind_it in
+    let both = first_end xs ys x y more rest left right m n after_it in
     (cc, both.1)
 
--- what follows a statement stands behind its last kind
-rejoin : (front : List Kind) (last : Kind) (kinds more : List Kind) → kinds ≡ front ++ last ∷ [] → kinds ++ more ≡ front ++ last ∷ more
-rejoin front last kinds more e = ap (λ ks. ks ++ more) e ∙ append_assoc front (last ∷ []) more
+-- what follows a statement comes after its last kind
+rejoin : (prefix : List Kind) (last : Kind) (kinds more : List Kind) → kinds ≡ prefix ++ last ∷ [] → kinds ++ more ≡ prefix ++ last ∷ more
+rejoin prefix last kinds more e = ap (λ ks. ks ++ more) e ∙ append_assoc prefix (last ∷ []) more
 
 -- a statement has a kind
 not_nothing : (t : Statement) (more : List Kind) → [] ≡ spelled_statement t ++ more → ⊥
@@ -264,8 +264,8 @@ statements_apart (s ∷ ss) (t ∷ ts) e =
     let b = statement_ends t in
     let more = flat_map spelled_statement ss in
     let rest = flat_map spelled_statement ts in
-    let whole = sym (rejoin a.front a.last (spelled_statement s) more a.joined) ∙ e ∙ rejoin b.front b.last (spelled_statement t) rest b.joined in
-    let both = first_end a.front b.front a.last b.last more rest a.inside b.inside a.ended b.ended whole in
+    let whole = sym (rejoin a.prefix a.last (spelled_statement s) more a.joined) ∙ e ∙ rejoin b.prefix b.last (spelled_statement t) rest b.joined in
+    let both = first_end a.prefix b.prefix a.last b.last more rest a.inside b.inside a.ended b.ended whole in
     let here : spelled_statement s ≡ spelled_statement t = a.joined ∙ both.0 ∙ sym b.joined in
     let later = statements_apart ss ts both.1 in
     cc

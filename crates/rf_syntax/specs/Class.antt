@@ -8,7 +8,7 @@ use Rattle.rf_syntax.specs.declared.class.MultPlace.TheVariants.{Absent, AfterTy
 use Rattle.rf_syntax.specs.declared.non_empty.NonEmpty.{NonEmpty}
 use Rattle.rf_syntax.specs.declared.name.Name.{Name}
 use Rattle.rf_syntax.specs.Name.{name_pieces}
-use Rattle.rf_syntax.specs.Parts.{flagged, optional, optional_behind, separated}
+use Rattle.rf_syntax.specs.Parts.{flagged, optional, optional_after, separated}
 use Rattle.rf_syntax.specs.Piece.{Piece, terminal}
 use Rattle.rf_syntax.specs.Range.{mult_pieces}
 use Rattle.rf_syntax.specs.Terminals.{abstract_word, class_word, contains_word, container_word, extends_word, opposite_word, refers_word, comma, dot, left_brace, right_brace, semicolon}
@@ -32,7 +32,7 @@ feature_pieces f =
     optional feature_word_pieces f.word
     ++ name_pieces f.target
     ++ with_mult_pieces f.mult f.name
-    ++ optional_behind opposite_word name_pieces f.opposite
+    ++ optional_after opposite_word name_pieces f.opposite
     ++ flagged f.semicolon semicolon
 
 -- "." | "{" { feature } "}"
@@ -47,5 +47,5 @@ abbrev pub class_pieces :
 class_pieces is_abstract name supers body =
     flagged is_abstract abstract_word
     ++ terminal class_word ∷ name_pieces name
-    ++ optional_behind extends_word (separated comma name_pieces) supers
+    ++ optional_after extends_word (separated comma name_pieces) supers
     ++ body_pieces body

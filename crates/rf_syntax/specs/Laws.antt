@@ -44,12 +44,12 @@ ends_statement (Mark Dot) = true
 ends_statement (Mark RightBrace) = true
 ends_statement _ = false
 
--- the last of the kinds ends a statement, and no kind in front of it does
+-- the last of the kinds ends a statement, and no kind before it does
 pub record EndsOnce (kinds : List Kind) : Type 0 where
-  pub front : List Kind
+  pub prefix : List Kind
   pub last : Kind
-  pub joined : kinds ≡ front ++ last ∷ []
-  pub inside : list_all (λ kind. not (ends_statement kind)) front ≡ true
+  pub joined : kinds ≡ prefix ++ last ∷ []
+  pub inside : list_all (λ kind. not (ends_statement kind)) prefix ≡ true
   pub ended : ends_statement last ≡ true
 
 -- the spelling of a statement isn't empty, and begins with this kind

@@ -17,22 +17,22 @@ optional pieces None = []
 optional pieces (Some part) = pieces part
 
 -- [ kind part ]
-abbrev pub optional_behind : {T : Type 0} → Kind → (T → List Piece) → Option T → List Piece
-optional_behind kind pieces None = []
-optional_behind kind pieces (Some part) = terminal kind ∷ pieces part
+abbrev pub optional_after : {T : Type 0} → Kind → (T → List Piece) → Option T → List Piece
+optional_after kind pieces None = []
+optional_after kind pieces (Some part) = terminal kind ∷ pieces part
 
 -- { kind part }
-abbrev pub each_behind : {T : Type 0} → Kind → (T → List Piece) → List T → List Piece
-each_behind kind pieces parts = flat_map (λ part. terminal kind ∷ pieces part) parts
+abbrev pub each_after : {T : Type 0} → Kind → (T → List Piece) → List T → List Piece
+each_after kind pieces parts = flat_map (λ part. terminal kind ∷ pieces part) parts
 
 -- part { kind part }
 abbrev pub separated : {T : Type 0} → Kind → (T → List Piece) → NonEmpty T → List Piece
-separated kind pieces parts = pieces parts.first ++ each_behind kind pieces parts.rest
+separated kind pieces parts = pieces parts.first ++ each_after kind pieces parts.rest
 
 -- [ part { kind part } ]
 abbrev pub separated_or_none : {T : Type 0} → Kind → (T → List Piece) → List T → List Piece
 separated_or_none kind pieces [] = []
-separated_or_none kind pieces (part ∷ parts) = pieces part ++ each_behind kind pieces parts
+separated_or_none kind pieces (part ∷ parts) = pieces part ++ each_after kind pieces parts
 
 -- "(" inner ")"
 abbrev pub in_parens : List Piece → List Piece

@@ -2,12 +2,12 @@
 use Rattle.std.specs.Prelude.{ℕ, List, Option, None, map}
 use Rattle.rf_lexer.specs.declared.token.Kind.{Kind}
 
--- the kind of a token and, where the tree keeps the token's place, that place
+-- the kind of a token and, where the tree keeps the token's offset, that offset
 pub record Piece : Type 0 where
   pub kind : Kind
   pub at : Option ℕ
 
--- a token whose place the tree doesn't keep
+-- a token whose offset the tree doesn't keep
 abbrev pub terminal : Kind → Piece
 terminal k = record { kind = k; at = None }
 

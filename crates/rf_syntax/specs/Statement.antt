@@ -9,7 +9,7 @@ use Rattle.rf_syntax.specs.declared.statement.Statement.TheVariants.{Class, Pred
 use Rattle.rf_syntax.specs.Assertion.{assertion_pieces}
 use Rattle.rf_syntax.specs.Class.{class_pieces}
 use Rattle.rf_syntax.specs.Name.{name_pieces}
-use Rattle.rf_syntax.specs.Parts.{flagged, optional_behind, separated}
+use Rattle.rf_syntax.specs.Parts.{flagged, optional_after, separated}
 use Rattle.rf_syntax.specs.Piece.{Piece, kinds_of, terminal}
 use Rattle.rf_syntax.specs.Predicate.{predicate_pieces}
 use Rattle.rf_syntax.specs.Range.{range_pieces}
@@ -17,7 +17,7 @@ use Rattle.rf_syntax.specs.Terminals.{declare_word, default_word, multi_word, sc
 
 -- item = NAME [ "=" range ]
 abbrev pub item_pieces : Item → List Piece
-item_pieces i = name_pieces i.name ++ optional_behind equal range_pieces i.range
+item_pieces i = name_pieces i.name ++ optional_after equal range_pieces i.range
 
 -- bound = NAME ( "=" | "+=" ) range
 abbrev pub bound_pieces : Bound → List Piece

@@ -30,10 +30,10 @@ pub enum ValueWord {
 pub enum AssertionForm {
     /// The atom alone.
     Plain(AtomForm),
-    /// Behind a `!`.
+    /// After a `!`.
     Not(AtomForm),
-    /// Behind a `?`.
+    /// After a `?`.
     Maybe(AtomForm),
-    /// In front of a `:` and the word of its value.
+    /// Before a `:` and the word of its value.
     Valued(AtomForm, ValueWord),
 }

@@ -4,7 +4,7 @@ use crate::{Mult, Name};
 #[derive(Debug, Drop)]
 pub struct Feature {
     pub word: Option<FeatureWord>,
-    /// The target class, which stands first.
+    /// The target class, which is first.
     pub target: Name,
     pub name: Name,
     pub mult: MultPlace,
@@ -13,22 +13,22 @@ pub struct Feature {
     pub semicolon: bool,
 }
 
-/// The word in front of a feature.
+/// The word before a feature.
 #[derive(Clone, Copy, Debug, PartialEq, Eq)]
 pub enum FeatureWord {
     Contains,
     Container,
-    /// It means the same as no word.
+    /// It means the same as if there were no word.
     Refers,
 }
 
-/// Where in a feature the multiplicity stands.
+/// Where in a feature the multiplicity is.
 #[derive(Clone, Copy, Debug, PartialEq, Eq)]
 pub enum MultPlace {
     /// Nowhere.
     Absent,
     /// Between the target class and the reference's name.
     AfterType(Mult),
-    /// Behind the reference's name.
+    /// After the reference's name.
     AfterName(Mult),
 }

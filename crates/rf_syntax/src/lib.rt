@@ -21,6 +21,3 @@ pub use predicate::{BodyLiteral, Param, PredicateWord};
 pub use range::{Mult, Range, Upper};
 pub use spell::spelling;
 pub use statement::{Ast, Bound, Item, Statement};
-
-#[cfg(test)]
-mod tests;

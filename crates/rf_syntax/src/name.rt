@@ -1,13 +1,13 @@
 use rf_text::Text;
 
-/// A name as it stands in a text.
+/// A name as it is written in a text.
 #[derive(Clone, Debug, Drop)]
 pub struct Name {
     /// Without quotes.
     pub text: Text,
-    /// Whether single quotes stand around it.
+    /// Whether it is between single quotes.
     pub quoted: bool,
-    /// The byte place of its token, from 0.
+    /// The byte offset of its token, from 0.
     pub at: u64,
 }
 
@@ -16,6 +16,6 @@ pub struct Name {
 pub struct SymbolName {
     /// With a member it is the class.
     pub name: Name,
-    /// What stands behind the `::`.
+    /// What follows the `::`.
     pub member: Option<Name>,
 }

@@ -23,10 +23,10 @@ pub struct Param {
 #[derive(Debug, Drop)]
 pub enum BodyLiteral {
     Call {
-        /// Whether a `!` stands in front.
+        /// Whether it begins with a `!`.
         negated: bool,
         symbol: SymbolName,
-        /// Whether a `+` stands behind the symbol.
+        /// Whether a `+` follows the symbol.
         closure: bool,
         args: Items<Name>,
     },

@@ -6,7 +6,7 @@ use Rattle.std.proofs.lemmas.Str.Parse.{numerals_by_value, tells_digits, parse_p
 use Rattle.std.specs.Fmt.{decimal}
 use Rattle.std.specs.Str.{IsUtf8}
 use Rattle.std.specs.Str.Parse.{ParsesUnsigned, AllDigits, digits_value}
-use Rattle.rf_text.specs.Number.{IsPlain}
+use Rattle.rf_text.specs.Private.Number.{IsPlain}
 
 -- of a number from 1 on the first digit isn't 0, and none begins with a plus
 pub IsPlain-decimal : (n : ℕ) → n < 2 ^ 64 → IsPlain (decimal n)

@@ -1,5 +1,5 @@
 pub mod Decimals
-pub mod FrontLemmas
+pub mod PrefixLemmas
 pub mod IdentifierLemmas
 pub mod LineLemmas
 pub mod WrittenLemmas

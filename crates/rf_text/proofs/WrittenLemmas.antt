@@ -13,7 +13,7 @@ use Rattle.unicode_ident.proofs.IdentLemmas.{is_xid_continue-ascii}
 use Rattle.rf_text.specs.Identifier.{is_identifier}
 use Rattle.rf_text.specs.Keyword.{is_keyword}
 use Rattle.rf_text.specs.Written.{CanBeQuoted, EndsName, IsWritten, ends_name, is_bare, written_name}
-use Rattle.rf_text.proofs.FrontLemmas.{BeginsWith, EachFails, EachFails-head, one_front}
+use Rattle.rf_text.proofs.PrefixLemmas.{BeginsWith, EachFails, EachFails-head, one_prefix}
 use Rattle.rf_text.proofs.IdentifierLemmas.{identifier_continues, none_fails}
 
 -- a letter or a digit of ASCII or an underscore
@@ -55,7 +55,7 @@ bare_byte name k bare h low =
     let kept = NoCharPasses-byte (λ c. not (is_xid_continue c)) name k (chars name, spelled, fails) h low in
     sym (is_xid_continue-ascii (get_or name k 0) low) ∙ not-false (is_xid_continue (get_or name k 0)) kept
 
--- so a bare name has none of the bytes that neither are beyond ASCII nor stand in plain names
+-- so a bare name has none of the bytes that neither are beyond ASCII nor are in plain names
 bare_fails :
     (p : ℕ → Bool) (name : List ℕ) → ((b : ℕ) → 128 ≤ b → p b ≡ false) → ((b : ℕ) → is_name_byte b ≡ true → p b ≡ false) →
     is_bare name ≡ true → EachFails p name
@@ -113,7 +113,7 @@ quoted-append name s = ap (λ l. 39 ∷ l) (append_assoc name (39 ∷ []) s)
 one_quoted :
     (a b s t : List ℕ) → All (λ x. x ≢ 39) a → All (λ x. x ≢ 39) b → a ++ 39 ∷ s ≡ b ++ 39 ∷ t → (a ≡ b) × (s ≡ t)
 one_quoted a b s t na nb e =
-    let both = one_front (λ x. x == 39) a b (39 ∷ s) (39 ∷ t) (no_quote-fails a na) (no_quote-fails b nb) refl refl e in
+    let both = one_prefix (λ x. x == 39) a b (39 ∷ s) (39 ∷ t) (no_quote-fails a na) (no_quote-fails b nb) refl refl e in
     let rests : 39 ∷ s ≡ 39 ∷ t = both.1 in
     (both.0, cc)
 
@@ -130,7 +130,7 @@ pub one_written :
 one_written a b s t qa qb es et e = elim (cases_Bool (is_bare a)) [
   | inl x ↦ elim (cases_Bool (is_bare b)) [
     | inl y ↦ (let same : a ++ s ≡ b ++ t = as_bare a s (b ++ t) x (sym (as_bare b t (written_name a ++ s) y (sym e))) in
-        one_front ends_name a b s t (bare_no_end a x) (bare_no_end b y) (ends-begins s es) (ends-begins t et) same)
+        one_prefix ends_name a b s t (bare_no_end a x) (bare_no_end b y) (ends-begins s es) (ends-begins t et) same)
     | inr y ↦ (let same : a ++ s ≡ 39 ∷ (b ++ 39 ∷ t) = as_bare a s (39 ∷ (b ++ 39 ∷ t)) x (sym (as_quoted b t (written_name a ++ s) y (sym e))) in
         absurd (bare_unquoted a s (b ++ 39 ∷ t) x same))
   ]
@@ -146,7 +146,7 @@ one_written a b s t qa qb es et e = elim (cases_Bool (is_bare a)) [
 pub written_injective : (a b : List ℕ) → CanBeQuoted a → CanBeQuoted b → written_name a ≡ written_name b → a ≡ b
 written_injective a b qa qb e = (one_written a b [] [] qa qb tt tt (ap (λ w. w ++ []) e)).0
 
--- what a search for the end of a quoted name finds, where this stands behind the first quote
+-- what a search for the end of a quoted name finds, where this follows the first quote
 quoted_inside :
     (bytes inner name tail : List ℕ) → bytes ≡ 39 ∷ inner → IsWritten bytes name tail → (is_bare name ≡ false) × (inner ≡ name ++ 39 ∷ tail)
 quoted_inside bytes inner name tail begun w = elim (cases_Bool (is_bare name)) [
@@ -162,24 +162,24 @@ quoted_closed bytes inner name tail begun lacks w =
     there (length name) 0 (omega (arith, length-append name (39 ∷ tail))) (get_or-append_seam name 39 tail 0)
 
 pub quoted_found :
-    (bytes inner front rest name tail : List ℕ) → bytes ≡ 39 ∷ inner → inner ≡ front ++ 39 ∷ rest → All (λ b. b ≢ 39) front →
-    IsWritten bytes name tail → (take (length front + 2) bytes ≡ written_name name) × (drop (length front + 2) bytes ≡ tail)
-quoted_found bytes inner front rest name tail begun split lacks w =
+    (bytes inner prefix rest name tail : List ℕ) → bytes ≡ 39 ∷ inner → inner ≡ prefix ++ 39 ∷ rest → All (λ b. b ≢ 39) prefix →
+    IsWritten bytes name tail → (take (length prefix + 2) bytes ≡ written_name name) × (drop (length prefix + 2) bytes ≡ tail)
+quoted_found bytes inner prefix rest name tail begun split lacks w =
     let inside = quoted_inside bytes inner name tail begun w in
-    let same = one_quoted front name rest tail lacks w.named.no_quote (sym split ∙ inside.1) in
-    let size : length (written_name name) ≡ length front + 2 =
+    let same = one_quoted prefix name rest tail lacks w.named.no_quote (sym split ∙ inside.1) in
+    let size : length (written_name name) ≡ length prefix + 2 =
     omega (arith, ap length (written_quoted name inside.0), length-append name (39 ∷ []), ap length same.0) in (
-      ap (take (length front + 2)) w.joined ∙ take_at (written_name name) tail (length front + 2) size,
-      ap (drop (length front + 2)) w.joined ∙ drop_at (written_name name) tail (length front + 2) size,
+      ap (take (length prefix + 2)) w.joined ∙ take_at (written_name name) tail (length prefix + 2) size,
+      ap (drop (length prefix + 2)) w.joined ∙ drop_at (written_name name) tail (length prefix + 2) size,
     )
 
 -- what a search for the end of a bare name finds
 pub bare_found :
-    (bytes front rest name tail : List ℕ) → ((inner : List ℕ) → bytes ≡ 39 ∷ inner → ⊥) → bytes ≡ front ++ rest → EachFails ends_name front →
-    EndsName rest → IsWritten bytes name tail → (front ≡ written_name name) × (rest ≡ tail)
-bare_found bytes front rest name tail unquoted split plain ended w = elim (cases_Bool (is_bare name)) [
+    (bytes prefix rest name tail : List ℕ) → ((inner : List ℕ) → bytes ≡ 39 ∷ inner → ⊥) → bytes ≡ prefix ++ rest → EachFails ends_name prefix →
+    EndsName rest → IsWritten bytes name tail → (prefix ≡ written_name name) × (rest ≡ tail)
+bare_found bytes prefix rest name tail unquoted split plain ended w = elim (cases_Bool (is_bare name)) [
   | inl bare ↦ (let whole : name ++ tail ≡ bytes = as_bare name tail bytes bare (sym w.joined) in
-      let same = one_front ends_name front name rest tail plain (bare_no_end name bare) (ends-begins rest ended) (ends-begins tail w.ended) (sym split ∙ sym whole) in
+      let same = one_prefix ends_name prefix name rest tail plain (bare_no_end name bare) (ends-begins rest ended) (ends-begins tail w.ended) (sym split ∙ sym whole) in
       (same.0 ∙ sym (written_bare name bare), same.1))
   | inr bare ↦ absurd (unquoted (name ++ 39 ∷ tail) (sym (as_quoted name tail bytes bare (sym w.joined))))
 ]

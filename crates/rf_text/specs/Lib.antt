@@ -1,6 +1,6 @@
 pub mod Identifier
+pub mod Keyword
 pub mod Laws
 pub mod Line
-pub mod Keyword
-pub mod Number
+pub mod Private
 pub mod Written

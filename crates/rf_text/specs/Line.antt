@@ -1,10 +1,10 @@
 use Rattle.std.specs.Prelude.{◌≡◌, ◌≢◌, ℕ, List, [], ◌∷◌, ◌++◌, All}
 
--- no line feed stands in the bytes
+-- no line feed is in the bytes
 abbrev pub NoBreak : List ℕ → Type 0
 NoBreak bytes = All (λ b. b ≢ 10) bytes
 
--- the first line of the bytes, and what stands behind its line feed
+-- the first line of the bytes, and what follows its line feed
 pub record IsLine (bytes line rest : List ℕ) : Type 0 where
   pub joined : bytes ≡ line ++ 10 ∷ rest
   pub whole : NoBreak line

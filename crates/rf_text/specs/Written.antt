@@ -4,14 +4,14 @@ use Rattle.std.specs.Str.{chars, is_utf8}
 use Rattle.rf_text.specs.Identifier.{is_identifier}
 use Rattle.rf_text.specs.Keyword.{is_keyword}
 
--- a name that may stand between quotes
+-- a name that may be written between quotes
 pub record CanBeQuoted (name : List ℕ) : Type 0 where
   pub no_quote : All (λ b. b ≢ 39) name
   pub no_line_feed : All (λ b. b ≢ 10) name
   pub no_return : All (λ b. b ≢ 13) name
   pub short : length name ≤ 255
 
--- the name is an identifier and no keyword, so it needs no quotes
+-- the name is an identifier that isn't a keyword, so it needs no quotes
 unfoldable pub is_bare : List ℕ → Bool
 is_bare name = is_utf8 name && (is_identifier (chars name) && not (is_keyword name))
 
@@ -23,7 +23,7 @@ written_name name = if is_bare name then name else 39 ∷ (name ++ 39 ∷ [])
 abbrev pub ends_name : ℕ → Bool
 ends_name b = (b == 32) || ((b == 58) || (b == 10))
 
--- what may stand behind a written name: nothing, or what begins with a space, a colon or a line feed
+-- what may follow a written name: nothing, or what begins with a space, a colon or a line feed
 abbrev pub EndsName : List ℕ → Type 0
 EndsName [] = Unit {0}
 EndsName (b ∷ bs) = IsTrue (ends_name b)

@@ -18,6 +18,3 @@ pub use lines::first_line;
 pub use number::{push_number, read_number};
 pub use text::Text;
 pub use written::{can_be_quoted, push_name, split_written};
-
-#[cfg(test)]
-mod tests;

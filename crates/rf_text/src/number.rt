@@ -1,10 +1,10 @@
 ghost use Rattle.std.specs.Prelude.{◌≡◌, ◌++◌, ◌<◌, ◌^◌, ℕ, Some, IfSome, OnOk, OnErr, decimal, IsTrue, ◌↔◌};
-ghost use Rattle.rf_text.specs.Number.{IsPlain};
+ghost use Rattle.rf_text.specs.Private.Number.{IsPlain};
 
 use crate::Text;
 use std::alloc::{AllocError, Global};
 
-// No plus stands in front, and a 0 in front stands alone.
+// The bytes don't begin with a plus, and a 0 that they begin with is alone.
 fn is_plain(bytes: &[u8]) -> bool
     ensures { IsTrue result ↔ IsPlain bytes.now }
 {

@@ -7,7 +7,7 @@ use crate::identifier::is_identifier;
 use crate::keyword::is_keyword;
 use std::alloc::{AllocError, Global};
 
-/// Whether a name may stand between single quotes: it has neither a single quote nor a line feed nor
+/// Whether a name may be written between single quotes: it has neither a single quote nor a line feed nor
 /// a carriage return, and at most 255 bytes. It may be empty.
 pub fn can_be_quoted(name: &[u8]) -> bool
     ensures { IsTrue result ↔ CanBeQuoted name.now }
@@ -46,7 +46,7 @@ fn ends_name(byte: u8) -> bool
     byte == b' ' || (byte == b':' || byte == b'\n')
 }
 
-// What stands before the next quote, and what behind it.
+// What is before the next quote, and what follows it.
 fn split_quote(bytes: &[u8]) -> Option<(&[u8], &[u8])>
     ensures joined { IfSome result (λ p. bytes.now ≡ p.0.now ++ 39 ∷ p.1.now) }
     ensures first { IfSome result (λ p. All (λ b. b ≢ 39) p.0.now) }
@@ -56,7 +56,7 @@ fn split_quote(bytes: &[u8]) -> Option<(&[u8], &[u8])>
     Some((&bytes[..end], &bytes[end + 1..]))
 }
 
-// What stands before the first byte that ends a bare name, and the rest from that byte on.
+// What is before the first byte that ends a bare name, and the rest from that byte on.
 fn split_bare(bytes: &[u8]) -> (&[u8], &[u8])
     ensures joined { bytes.now ≡ result.0.now ++ result.1.now }
     ensures plain { All (λ b. ends_name b ≡ false) result.0.now }
@@ -69,9 +69,9 @@ fn split_bare(bytes: &[u8]) -> (&[u8], &[u8])
     bytes.split_at(end)
 }
 
-/// The written name that the bytes begin with, and what stands behind it. A quoted name ends with the
+/// The written name that the bytes begin with, and what follows it. A quoted name ends with the
 /// next quote, and a bare one before a space, a colon, a line feed or the end. None where a quote
-/// stands first and no other one behind it. It takes time in proportion to the written name.
+/// is first and no other one follows it. It takes time in proportion to the written name.
 pub fn split_written(bytes: &[u8]) -> Option<(&[u8], &[u8])>
     ensures joined { IfSome result (λ p. bytes.now ≡ p.0.now ++ p.1.now) }
     ensures found { (name tail : List ℕ) → IsWritten bytes.now name tail → IsSome result }

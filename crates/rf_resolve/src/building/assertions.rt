@@ -4,7 +4,7 @@ ghost use Rattle.std.specs.Prelude.{◌≡◌, IfOk, map};
 ghost use Rattle.rf_names.specs.LookUp.{class_named, new_object_of, the_number, the_symbol};
 ghost use Rattle.rf_resolve.specs.Resolved.{object_or_new, resolved_arg, resolved_assertion};
 
-use rf_names::{AssertForm, Names, Sense};
+use rf_names::{AssertDeclaration, Names, Sense};
 use rf_problem::{Assertion, Symbol};
 use rf_syntax::{Arg, Name};
 use rf_text::Items;
@@ -64,7 +64,7 @@ fn resolved_args(alloc: Global, names: &Names, args: &[Arg]) -> Result<Vec<Optio
 fn resolved_assertion(
     alloc: Global,
     names: &Names,
-    form: &AssertForm,
+    form: &AssertDeclaration,
 ) -> Result<Assertion, AllocError>
     ensures { IfOk result (λ assertion.
         assertion ≡ resolved_assertion names.now.declared.now form.now) }

@@ -4,7 +4,7 @@ ghost use Rattle.std.specs.Prelude.{◌≡◌, IfOk, map};
 ghost use Rattle.rf_names.specs.LookUp.{class_named, the_number};
 ghost use Rattle.rf_resolve.specs.Resolved.{resolved_class};
 
-use rf_names::{ClassForm, Names};
+use rf_names::{ClassDeclaration, Names};
 use rf_problem::Class;
 use rf_syntax::Name;
 use rf_text::Items;
@@ -29,7 +29,11 @@ fn class_numbers(alloc: Global, names: &Names, supers: &[&Name]) -> Result<Vec<u
     Ok(numbers)
 }
 
-fn resolved_class(alloc: Global, names: &Names, form: &ClassForm) -> Result<Class, AllocError>
+fn resolved_class(
+    alloc: Global,
+    names: &Names,
+    form: &ClassDeclaration,
+) -> Result<Class, AllocError>
     ensures { IfOk result (λ class. class ≡ resolved_class names.now.declared.now form.now) }
 {
     let name = form.name.text.clone()?;

@@ -1,6 +1,7 @@
-//! The objects of a problem: the named ones, and behind them those that new nodes come from.
+//! The objects of a problem: the named ones, and after them those that new nodes come from.
 
 ghost use Rattle.std.specs.Prelude.{◌≡◌, ◌≤◌, ◌++◌, IfOk, length, map};
+ghost use Rattle.rf_bounds.specs.declared.TheConstants.{MOST_CLASSES};
 ghost use Rattle.rf_problem.specs.Valid.{concrete_numbers, new_object};
 ghost use Rattle.std.specs.Option.{option_map};
 ghost use Rattle.rf_names.specs.LookUp.{named_objects};
@@ -44,13 +45,13 @@ fn resolved_names(alloc: Global, names: &Names) -> Result<Vec<ObjectDecl>, Alloc
     Ok(objects)
 }
 
-/// The named objects, and behind them those that the new nodes of these classes come from.
+/// The named objects, and after them those that the new nodes of these classes come from.
 pub fn resolved_objects(
     alloc: Global,
     names: &Names,
     classes: &[Class],
 ) -> Result<Vec<ObjectDecl>, AllocError>
-    requires { length classes.now ≤ 256 }
+    requires { length classes.now ≤ MOST_CLASSES }
     ensures { IfOk result (λ objects. objects.items
         ≡ map (resolved_object names.now.declared.now) (named_objects names.now.declared.now)
         ++ map new_object (concrete_numbers 0 classes.now)) }

@@ -5,14 +5,14 @@ ghost use Rattle.rf_resolve.specs.Resolved.{resolved_reference};
 
 use crate::building::classes::class_number;
 use crate::building::multiplicity::count_of_mult;
-use rf_names::{Names, ReferenceForm, kind_of, opposite};
+use rf_names::{Names, ReferenceDeclaration, kind_of, opposite};
 use rf_problem::Reference;
 use std::alloc::{AllocError, Global};
 
 fn resolved_reference(
     alloc: Global,
     names: &Names,
-    form: &ReferenceForm,
+    form: &ReferenceDeclaration,
 ) -> Result<Reference, AllocError>
     requires { form.now.source < 2 ^ 32 }
     ensures { IfOk result (λ reference.

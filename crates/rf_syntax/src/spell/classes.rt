@@ -3,7 +3,7 @@ ghost use Rattle.rf_syntax.specs.Piece.{kinds_of};
 ghost use Rattle.rf_syntax.specs.Class.{body_pieces, class_pieces, feature_pieces, feature_word_pieces, with_mult_pieces};
 
 use super::parts::{
-    push_each, push_flagged, push_mark, push_optional, push_optional_behind, push_word,
+    push_each, push_flagged, push_mark, push_optional, push_optional_after, push_word,
 };
 use super::production::Production;
 use crate::{Feature, FeatureWord, MultPlace, Name, NonEmpty};
@@ -49,7 +49,7 @@ impl Production for Feature {
         push_optional(out, &self.word)?;
         self.target.push_to(out)?;
         push_with_mult(out, &self.mult, &self.name)?;
-        push_optional_behind(out, Kind::Word(Keyword::Opposite), &self.opposite)?;
+        push_optional_after(out, Kind::Word(Keyword::Opposite), &self.opposite)?;
         push_flagged(out, self.semicolon, Kind::Mark(Mark::Semicolon))
     }
 }
@@ -82,6 +82,6 @@ pub fn push_class(
     push_flagged(out, is_abstract, Kind::Word(Keyword::Abstract))?;
     push_word(out, Keyword::Class)?;
     name.push_to(out)?;
-    push_optional_behind(out, Kind::Word(Keyword::Extends), supers)?;
+    push_optional_after(out, Kind::Word(Keyword::Extends), supers)?;
     push_body(out, body)
 }

@@ -1,7 +1,7 @@
 ghost use Rattle.std.specs.Prelude.{◌≡◌, IfOk};
 ghost use Rattle.rf_syntax.specs.Name.{kind_of_name, name_pieces, symbol_pieces};
 
-use super::parts::{push_kind, push_optional_behind};
+use super::parts::{push_kind, push_optional_after};
 use super::production::Production;
 use crate::{Name, SymbolName};
 use rf_lexer::{Kind, Mark};
@@ -31,6 +31,6 @@ impl Production for SymbolName {
 
     fn push_to(&self, out: &mut Vec<Kind>) -> Result<(), AllocError> {
         self.name.push_to(out)?;
-        push_optional_behind(out, Kind::Mark(Mark::ColonColon), &self.member)
+        push_optional_after(out, Kind::Mark(Mark::ColonColon), &self.member)
     }
 }

@@ -1,6 +1,6 @@
 ghost use Rattle.std.specs.Prelude.{◌≡◌, ◌++◌, ◌∷◌, [], OnOk};
 ghost use Rattle.std.specs.List.{flat_map};
-ghost use Rattle.rf_syntax.specs.Parts.{each_behind, flagged, optional, optional_behind, separated, separated_or_none};
+ghost use Rattle.rf_syntax.specs.Parts.{each_after, flagged, optional, optional_after, separated, separated_or_none};
 ghost use Rattle.rf_syntax.specs.Piece.{kinds_of};
 ghost use Rattle.rf_syntax.specs.Terminals.{comma};
 
@@ -44,14 +44,14 @@ pub fn push_optional<T: Production>(out: &mut Vec<Kind>, part: &Option<T>) -> Re
     }
 }
 
-pub fn push_optional_behind<T: Production>(
+pub fn push_optional_after<T: Production>(
     out: &mut Vec<Kind>,
     kind: Kind,
     part: &Option<T>,
 ) -> Result<(), AllocError>
     ensures { OnOk result (
         out.new.items
-        ≡ out.old.items ++ kinds_of (optional_behind kind T.pieces part.now)) }
+        ≡ out.old.items ++ kinds_of (optional_after kind T.pieces part.now)) }
 {
     match part {
         None => Ok(()),
@@ -74,15 +74,15 @@ pub fn push_each<T: Production>(out: &mut Vec<Kind>, parts: &[T]) -> Result<(), 
     Ok(())
 }
 
-// Appends one part after another, each behind the mark.
-pub fn push_each_behind<T: Production>(
+// Appends the parts one by one, each after the mark.
+pub fn push_each_after<T: Production>(
     out: &mut Vec<Kind>,
     mark: Mark,
     parts: &[T],
 ) -> Result<(), AllocError>
     ensures { OnOk result (
         out.new.items
-        ≡ out.old.items ++ kinds_of (each_behind (Kind.Mark mark) T.pieces parts.now)) }
+        ≡ out.old.items ++ kinds_of (each_after (Kind.Mark mark) T.pieces parts.now)) }
 {
     for part in parts {
         push_mark(out, mark)?;
@@ -101,7 +101,7 @@ pub fn push_separated<T: Production>(
         ≡ out.old.items ++ kinds_of (separated (Kind.Mark mark) T.pieces parts.now)) }
 {
     parts.first.push_to(out)?;
-    push_each_behind(out, mark, parts.rest.as_slice())
+    push_each_after(out, mark, parts.rest.as_slice())
 }
 
 pub fn push_separated_or_none<T: Production>(
@@ -117,12 +117,12 @@ pub fn push_separated_or_none<T: Production>(
         [] => Ok(()),
         [first, rest @ ..] => {
             first.push_to(out)?;
-            push_each_behind(out, mark, rest)
+            push_each_after(out, mark, rest)
         }
     }
 }
 
-// Where the grammar has a list of parts in one place, commas stand between them.
+// Where the grammar has a list of parts as one part, commas are between them.
 impl<T: Production> Production for NonEmpty<T> {
     ghost pieces = { separated comma T.pieces };
 

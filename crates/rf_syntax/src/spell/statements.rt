@@ -5,7 +5,7 @@ ghost use Rattle.rf_syntax.specs.Statement.{bound_pieces, item_pieces, statement
 ghost use Rattle.rf_syntax.specs.Terminals.{comma, dot};
 
 use super::classes::push_class;
-use super::parts::{push_flagged, push_mark, push_optional_behind, push_word};
+use super::parts::{push_flagged, push_mark, push_optional_after, push_word};
 use super::predicates::push_predicate;
 use super::production::Production;
 use crate::{AssertionForm, Bound, Item, NonEmpty, Statement};
@@ -17,7 +17,7 @@ impl Production for Item {
 
     fn push_to(&self, out: &mut Vec<Kind>) -> Result<(), AllocError> {
         self.name.push_to(out)?;
-        push_optional_behind(out, Kind::Mark(Mark::Equal), &self.range)
+        push_optional_after(out, Kind::Mark(Mark::Equal), &self.range)
     }
 }
 

@@ -25,5 +25,5 @@ returns c =
     ≡ occurrence_of c.args.params.now c.args.clause.now text =
     λ text. c.in_ok-occurrences.ensures text
     ∙ ap (λ ls. occurrence_of c.args.params.now ls text) same in
-    c.least_loose.ensures ∙ loose_least c.args.params.now c.args.clause.now
+    c.in_ok-least.ensures ∙ loose_least c.args.params.now c.args.clause.now
     c.in_ok-occurrences.occurrences (map lent c.as_slice-2.result.now) each firsts

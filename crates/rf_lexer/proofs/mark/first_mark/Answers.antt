@@ -1,4 +1,4 @@
-use Rattle.rf_lexer.proofs.Marks.{behind_shorter, first_mark_found, first_mark_more}
+use Rattle.rf_lexer.proofs.Marks.{suffix_shorter, first_mark_found, first_mark_more}
 use Rattle.rf_lexer.proofs.mark.first_mark.Goals as goal
 
 pub returns-in-Some-clause-found : goal.returns-in-Some-clause-found
@@ -7,7 +7,7 @@ returns-in-Some-clause-found c =
 
 pub returns-in-Some-clause-shorter : goal.returns-in-Some-clause-shorter
 returns-in-Some-clause-shorter c =
-    behind_shorter _ _ _ c.as_str.ensures.some c.as_str.utf8 c.utf8.text c.in-Some.ensures.utf8 c.in-Some.ensures.found
+    suffix_shorter _ _ _ c.as_str.ensures.some c.as_str.utf8 c.utf8.text c.in-Some.ensures.utf8 c.in-Some.ensures.found
 
 pub loop-i-preserved : goal.loop-i-preserved
 loop-i-preserved c = first_mark_more _ _ _ _ c.as_str.ensures.spelling c.loop-i.invariant c.in_default.ensures.none

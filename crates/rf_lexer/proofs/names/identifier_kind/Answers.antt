@@ -7,7 +7,7 @@ returns-in-Some-clause-ok c =
     takes_word _ _ _ _ c.requires (c.before-word.ensures _ c.requires.joined) c.in-Some.ensures.found
 
 pub returns-then-word-gt-MOST_BYTES-clause-fault : goal.returns-then-word-gt-MOST_BYTES-clause-fault
-returns-then-word-gt-MOST_BYTES-clause-fault c other =
+returns-then-word-gt-MOST_BYTES-clause-fault c =
     (refl, long_name _ _ _ c.requires (c.before-word.ensures _ c.requires.joined) c.in_default.ensures.none c.if-word-gt-MOST_BYTES.true)
 
 pub returns-clause-ok : goal.returns-clause-ok

@@ -9,7 +9,7 @@ returns-in-Ok-clause-ok c =
     c.if-n-le-MOST.true
 
 pub returns-in_default-clause-fault : goal.returns-in_default-clause-fault
-returns-in_default-clause-fault c other = (
+returns-in_default-clause-fault c = (
   refl,
   elim c.in_default.branch [
     | in_default-via-in-Ok+else-n-le-MOST w ↦

@@ -1,6 +1,6 @@
 use Rattle.std.proofs.Common.{◌≡◌, take}
-use Rattle.rf_names.specs.LeastPlace.{least_of}
-use Rattle.rf_name_rules.specs.Places.{cycles_from}
+use Rattle.rf_names.specs.Offsets.{least_of}
+use Rattle.rf_name_rules.specs.RuleOffsets.{cycles_from}
 use Rattle.rf_name_rules.proofs.cycles.cycles_among.Given as goal
 
 abbrev pub invariant-loop-number : goal.invariant-loop-number

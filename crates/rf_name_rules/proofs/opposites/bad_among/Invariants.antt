@@ -1,6 +1,6 @@
 use Rattle.std.proofs.Common.{◌≡◌, take}
-use Rattle.rf_names.specs.LeastPlace.{least_of}
-use Rattle.rf_name_rules.specs.Places.{bad_opposites_from}
+use Rattle.rf_names.specs.Offsets.{least_of}
+use Rattle.rf_name_rules.specs.RuleOffsets.{bad_opposites_from}
 use Rattle.rf_name_rules.proofs.opposites.bad_among.Given as goal
 
 abbrev pub invariant-loop-number : goal.invariant-loop-number

@@ -1,7 +1,7 @@
 use Rattle.std.proofs.Common.{◌≡◌, take}
 use Rattle.std.specs.List.{flat_map}
-use Rattle.rf_names.specs.LeastPlace.{least_of}
-use Rattle.rf_name_rules.specs.Places.{bad_mult}
+use Rattle.rf_names.specs.Offsets.{least_of}
+use Rattle.rf_name_rules.specs.RuleOffsets.{bad_mult}
 use Rattle.rf_name_rules.proofs.ranges.bad_mults.Given as goal
 
 abbrev pub invariant-loop-reference : goal.invariant-loop-reference

@@ -1,4 +1,4 @@
--- The number of the next reference goes behind those of its name, and the other lists stay.
+-- The number of the next reference goes after those of its name, and the other lists stay.
 use Rattle.std.proofs.Common.{◌≡◌, ◌∙◌, arith, ap, get_or}
 use Rattle.std.proofs.lemmas.Grind.{text_groups}
 use Rattle.rf_names.proofs.ListedLemmas.{numbers_more}

@@ -1,7 +1,7 @@
-use Rattle.rf_resolve.proofs.Made.{found_one}
+use Rattle.rf_resolve.proofs.Made.{answers_for}
 use Rattle.rf_resolve.proofs.resolving.resolve.Goals as goal
 
-pub returns-clause-found : goal.returns-clause-found
-returns-clause-found c = λ p is.
-    found_one c.args.ast.now _ c.in_ok-declared.ensures p c.resolve_declared.result is
-    c.resolve_declared.ensures.ok c.resolve_declared.ensures.fault
+pub returns-clause-answers : goal.returns-clause-answers
+returns-clause-answers c =
+    answers_for c.args.ast.now _ c.in_ok-declared.ensures c.resolve_declared.result
+    c.resolve_declared.ensures.sound c.resolve_declared.ensures.ok c.resolve_declared.ensures.fault

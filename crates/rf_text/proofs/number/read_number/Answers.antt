@@ -1,7 +1,7 @@
 use Rattle.std.proofs.Common.{◌∙◌, sym, refl}
 use Rattle.std.proofs.lemmas.Fmt.{parse-decimal}
 use Rattle.std.specs.Str.{IsUtf8}
-use Rattle.rf_text.specs.Number.{IsPlain}
+use Rattle.rf_text.specs.Private.Number.{IsPlain}
 use Rattle.rf_text.proofs.Decimals.{IsPlain-decimal, IsUtf8-decimal, spelled}
 use Rattle.rf_text.proofs.number.read_number.Goals as goal
 

@@ -1,4 +1,4 @@
--- The next name is put behind the others, or its text came before.
+-- The next name is put after the others, or its text came before.
 use Rattle.std.proofs.Common.{◌∙◌, ap, not}
 use Rattle.rf_names.proofs.FirstLemmas.{first_known, first_new}
 use Rattle.rf_names.proofs.numbering.Numbering.of_first.Goals as goal

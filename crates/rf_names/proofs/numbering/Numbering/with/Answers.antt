@@ -1,6 +1,6 @@
 -- A text that has no number takes the next one, and any other keeps its number.
 use Rattle.std.proofs.Common.{Some, sym, ◌∙◌, arith}
-use Rattle.std.proofs.lemmas.Map.Text.{btree_map_updates_str}
+use Rattle.std.proofs.lemmas.Map.Text.{hash_map_updates_str}
 use Rattle.rf_names.proofs.NumberLemmas.{AreNumbered-kept, AreNumbered-new}
 use Rattle.rf_names.proofs.numbering.Numbering.with.Goals as goal
 use Rattle.rf_names.proofs.numbering.Numbering.with.Goals.{then-not-contains_key+in_ok-insert, else-not-contains_key}
@@ -11,7 +11,7 @@ invariant_of-result c = record {
     | then-not-contains_key+in_ok-insert w ↦ rw w.numbers-is
         (AreNumbered-new c.args.self.names.items c.push.new.self.items c.args.name c.as_str-text.result.now w.len.result c.args.self.numbers w.insert.new.self c.args.self.exact
         c.in_ok-push.ensures.items c.as_str-text.ensures.bytes (omega (arith, w.len.ensures)) (sym c.contains_key.ensures ∙ w.if-not-contains_key.true)
-        (btree_map_updates_str c.as_str-text.result.now c.args.self.numbers w.insert.new.self (Some w.len.result) w.in_ok-insert.ensures.updates))
+        (hash_map_updates_str c.as_str-text.result.now c.args.self.numbers w.insert.new.self (Some w.len.result) w.in_ok-insert.ensures.updates))
     | else-not-contains_key w ↦ rw w.numbers-is
         (AreNumbered-kept c.args.self.names.items c.push.new.self.items c.args.name c.as_str-text.result.now c.args.self.numbers c.args.self.exact
         c.in_ok-push.ensures.items c.as_str-text.ensures.bytes (sym c.contains_key.ensures ∙ w.if-not-contains_key.false))

@@ -1,0 +1,7 @@
+use Rattle.std.proofs.Common.{◌≡◌, map, take}
+use Rattle.std.specs.List.{flat_map}
+use Rattle.rf_names.specs.Offsets.{least_of}
+use Rattle.rf_names.proofs.offsets.least_among_lent.Given as goal
+
+abbrev pub invariant-loop-item : goal.invariant-loop-item
+invariant-loop-item g l = l.least ≡ least_of (flat_map (g.R.OffsetRule.offsets l.rule) (map (λ i. i.now) (take l.item-index l.items)))

@@ -1,0 +1,3 @@
+-- For private functions alone: no public contract cites these.
+pub mod Parsing
+pub mod Parts

@@ -1,0 +1,2 @@
+-- For private functions alone: no public contract cites these.
+pub mod Number
