@@ -9,6 +9,3 @@ mod search;
 pub use along::reach_along;
 pub use laws::{join_law, monotone_law, no_repeats_law, reverse_law, split_law};
 pub use search::{Edges, reach};
-
-#[cfg(test)]
-mod tests;

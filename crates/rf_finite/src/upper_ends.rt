@@ -23,17 +23,3 @@ pub fn add_ends(a: Option<u64>, b: Option<u64>) -> Option<u64>
         _ => None,
     }
 }
-
-#[cfg(test)]
-mod tests {
-    use super::*;
-
-    #[test]
-    fn compares_and_adds_ends(rt: HostRuntime) {
-        assert!(rt; within(3, Some(3)));
-        assert!(rt; !within(4, Some(3)));
-        assert!(rt; within(u64::MAX, None));
-        assert_eq!(rt; add_ends(Some(2), Some(3)), Some(5));
-        assert_eq!(rt; add_ends(Some(2), None), None);
-    }
-}

@@ -49,6 +49,3 @@ pub fn first_cycle(
     }
     Ok(None)
 }
-
-#[cfg(test)]
-mod tests;

@@ -28,8 +28,6 @@ mod steps;
 mod suspect_edges;
 mod suspects;
 mod tables;
-#[cfg(test)]
-mod tests;
 mod tuples;
 mod view;
 

@@ -78,6 +78,3 @@ pub fn off_cycles(alloc: Global, holders: &[Option<u64>]) -> Result<Vec<bool>, A
     }
     Ok(peeled)
 }
-
-#[cfg(test)]
-mod tests;

@@ -140,6 +140,3 @@ impl Store {
         self.table.len()
     }
 }
-
-#[cfg(test)]
-mod tests;
