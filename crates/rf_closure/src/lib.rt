@@ -1,4 +1,4 @@
-//! Which places can be reached over the edges between numbered places, where only some places may
+//! Which vertices can be reached over the edges between numbered vertices, where only some vertices may
 //! be passed through.
 #![tactic(auto)]
 

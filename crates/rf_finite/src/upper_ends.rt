@@ -1,4 +1,4 @@
-//! Upper ends of counts, where `None` is no end.
+//! Upper ends of counts, where `None` means unbounded.
 
 ghost use Rattle.std.specs.Prelude.{◌≡◌, ◌^◌, ◌<◌, IfSome};
 ghost use Rattle.rf_finite.specs.Ends.{within, add_ends};

@@ -122,7 +122,7 @@ impl ClassSet {
         }
     }
 
-    /// Whether there is no class in the set.
+    /// Whether the set is empty.
     pub fn is_empty(self) -> bool
         ensures classes { IsTrue result ↔ (self ≡ set.empty) }
         ensures members { IsTrue result ↔ ((d : ℕ) → set.contains self d ≡ false) }
