@@ -5,6 +5,8 @@
 #![tactic(auto)]
 
 mod asserted;
+mod assignment;
+mod container_of;
 mod containers;
 mod cycle;
 mod degrees;
@@ -12,7 +14,8 @@ mod edge_ends;
 mod edges;
 mod ends;
 mod evaluate;
-mod holders;
+mod found;
+mod graph_index;
 mod judging;
 mod least;
 mod mirrors;
@@ -21,7 +24,6 @@ mod node_lists;
 mod nodes;
 mod objects;
 mod peeling;
-mod places;
 mod pruning;
 mod scopes;
 mod steps;
@@ -29,6 +31,5 @@ mod suspect_edges;
 mod suspects;
 mod tables;
 mod tuples;
-mod view;
 
 pub use judging::judge;
