@@ -1,4 +1,4 @@
--- Marking the places of a row, one after another.
+-- Marking the vertices of a row, one after another.
 use Rattle.std.proofs.Common.{◌≡◌, ℕ, zero, suc, ◌+◌, ◌<◌, ◌||◌, ◌&&◌, Bool, true, false, ltb, eqb, not, ap, true≢false, List, [], ◌∷◌, ◌++◌, length, take, get_or, set, refl, sym, ◌∙◌, subst, inl, inr, arith, get_or-set_same, get_or-set_other, length-set, length-append}
 use Rattle.std.proofs.lemmas.Bool.{and_parts, not-true, cases_eq, lt-ltb, le-ltb, eq-eqb, ne_eqb, cases_lt, or_left}
 use Rattle.std.proofs.lemmas.List.Elements.{Contains-append_left, Contains-push, Contains-push_cases}
@@ -22,11 +22,11 @@ or_true : (b : Bool) → true ≡ (b || true)
 or_true true = refl
 or_true false = refl
 
--- the row goes on by one place b, which counts where listed says so
+-- the row goes on by one vertex b, which counts where listed says so
 pub record IsRowMore (row row' : ℕ → Bool) (b : ℕ) (listed : Bool) : Type 0 where
   pub at : (k : ℕ) → row' k ≡ (row k || (eqb b k && listed))
 
--- a row below i goes on by its place i
+-- a row below i goes on by its vertex i
 pub IsRowMore-below : (row : ℕ → Bool) (i : ℕ) → IsRowMore (λ k. ltb k i && row k) (λ k. ltb k (i + 1) && row k) i (row i)
 IsRowMore-below row i = record {
   at = λ k. elim (cases_eq k i) [
@@ -45,11 +45,11 @@ IsRowMore-below row i = record {
   ];
 }
 
--- the places of a list go on by the next of the list
-pub IsRowMore-listed : (places : List ℕ) (i : ℕ) → i < length places
-    → IsRowMore (λ k. list_any (λ c. eqb c k) (take i places)) (λ k. list_any (λ c. eqb c k) (take (i + 1) places)) (get_or places i 0) true
-IsRowMore-listed places i l = record {
-  at = λ k. list_any_more (λ c. eqb c k) places i 0 l ∙ ap (λ t. list_any (λ c. eqb c k) (take i places) || t) (and_true (eqb (get_or places i 0) k));
+-- the vertices of a list go on by the next of the list
+pub IsRowMore-listed : (vertices : List ℕ) (i : ℕ) → i < length vertices
+    → IsRowMore (λ k. list_any (λ c. eqb c k) (take i vertices)) (λ k. list_any (λ c. eqb c k) (take (i + 1) vertices)) (get_or vertices i 0) true
+IsRowMore-listed vertices i l = record {
+  at = λ k. list_any_more (λ c. eqb c k) vertices i 0 l ∙ ap (λ t. list_any (λ c. eqb c k) (take i vertices) || t) (and_true (eqb (get_or vertices i 0) k));
 }
   where
     and_true : (b : Bool) → b ≡ (b && true)
@@ -57,7 +57,7 @@ IsRowMore-listed places i l = record {
     and_true false = refl
 
 module _ (size : ℕ) (old_marks : List Bool) (old_stack : List ℕ) where
-  -- b is no place, or marked already, or not in the row
+  -- b isn't a vertex, or marked already, or not in the row
   pub Marking-skip : (row row' : ℕ → Bool) (marks : List Bool) (stack : List ℕ) (b : ℕ) (listed : Bool) → IsRowMore row row' b listed
       → Marking size row old_marks old_stack marks stack → (b < size → (not (get_or marks b false) && listed) ≡ false)
       → Marking size row' old_marks old_stack marks stack
@@ -83,7 +83,7 @@ module _ (size : ℕ) (old_marks : List Bool) (old_stack : List ℕ) where
       no_more true false false i e s = absurd (true≢false e)
       no_more false false false i e s = sym s
 
-  -- b is a place in the row and was not marked
+  -- b is a vertex in the row and was not marked
   pub Marking-mark : (row row' : ℕ → Bool) (marks : List Bool) (stack : List ℕ) (b : ℕ) (listed : Bool) → IsRowMore row row' b listed
       → Marking size row old_marks old_stack marks stack → b < size → (not (get_or marks b false) && listed) ≡ true
       → Marking size row' old_marks old_stack (set marks b true) (stack ++ b ∷ [])

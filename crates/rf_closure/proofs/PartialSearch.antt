@@ -7,7 +7,7 @@ use Rattle.rf_finite.specs.Walks.{walk_below, IsWalk, IsReachable}
 use Rattle.rf_finite.proofs.Walks.{walk_below-trans, walk_below-from_edge, IsReachable-from_walk_below}
 use Rattle.rf_closure.specs.Marking.{Marking}
 
--- the marks are right as far as they go, and only the places on the stack are still to be expanded
+-- the marks are right as far as they go, and only the vertices on the stack are still to be expanded
 pub record IsPartialSearch (size : ℕ) (edge : ℕ → ℕ → Bool) (through : ℕ → Bool) (from : ℕ) (marks : List Bool) (stack : List ℕ) : Type 0 where
   pub len : length marks ≡ size
   pub sound : (k : ℕ) → k < size → get_or marks k false ≡ true → walk_below edge through size from k ≡ true
@@ -50,7 +50,7 @@ module _ (size : ℕ) (edge : ℕ → ℕ → Bool) (through : ℕ → Bool) (fr
       nothing : (c : ℕ) → Contains [] c → ⊥
       nothing c k = omega (arith, k.1)
 
-  -- the place on top of the stack is not to be expanded: it is the start, or no walk passes through it
+  -- the vertex on top of the stack is not to be expanded: it is the start, or no walk passes through it
   pub IsPartialSearch-skip : (marks : List Bool) (stack : List ℕ) (c : ℕ) → IsPartialSearch size edge through from marks (stack ++ c ∷ [])
       → (not (eqb c from) && through c) ≡ false → IsPartialSearch size edge through from marks stack
   IsPartialSearch-skip marks stack c r stop = record {
@@ -71,7 +71,7 @@ module _ (size : ℕ) (edge : ℕ → ℕ → Bool) (through : ℕ → Bool) (fr
     waiting = λ d k. r.waiting d (Contains-append_left stack (c ∷ []) d k);
   }
 
-  -- the place on top of the stack is expanded
+  -- the vertex on top of the stack is expanded
   pub IsPartialSearch-expand : (was : List Bool) (old : List ℕ) (c : ℕ) (marks : List Bool) (stack : List ℕ)
       → IsPartialSearch size edge through from was (old ++ c ∷ []) → (not (eqb c from) && through c) ≡ true → Marking size (edge c) was old marks stack
       → IsPartialSearch size edge through from marks stack
@@ -114,7 +114,7 @@ module _ (size : ℕ) (edge : ℕ → ℕ → Bool) (through : ℕ → Bool) (fr
     | inr e ↦ elim (cases_Bool (get_or marks b false)) [ inl h ↦ absurd (both_ways (walk_below edge through size from b) e (r.sound b l h)) | inr h ↦ h ∙ sym e ]
   ]
 
-  -- so a place is marked exactly where it can be reached
+  -- so a vertex is marked exactly where it can be reached
   pub IsPartialSearch-reachable : (marks : List Bool) → IsPartialSearch size edge through from marks []
       → (b : ℕ) → b < size → (get_or marks b false ≡ true) ↔ IsReachable edge through size from b
   IsPartialSearch-reachable marks r b l = (

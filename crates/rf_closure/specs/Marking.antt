@@ -1,12 +1,13 @@
--- What marking the places to which one place leads does to the marks and to the stack.
+-- Private: no public contract cites this.
+-- What marking the vertices to which one vertex leads does to the marks and to the stack.
 use Rattle.std.specs.Prelude.{◌≡◌, ℕ, ◌+◌, if◌then◌else◌, [], ◌∷◌, ◌<◌, ◌⊎◌, ◌||◌, Bool, true, false, List, length, slice_index_or, Contains}
 
--- how many places are not marked
+-- how many vertices are not marked
 abbrev pub unmarked_count : List Bool → ℕ
 unmarked_count [] = 0
 unmarked_count (b ∷ bs) = (if b then 0 else 1) + unmarked_count bs
 
--- the places of the row are marked as well, and those that were not are on the stack
+-- the vertices of the row are marked as well, and those that were not are on the stack
 pub record Marking (size : ℕ) (row : ℕ → Bool) (old_marks : List Bool) (old_stack : List ℕ)
     (marks : List Bool) (stack : List ℕ) : Type 0 where
   pub len : length marks ≡ size

@@ -1,4 +1,4 @@
-//! The search from one place along lists of the places to which each place leads.
+//! The search from one vertex along lists of the vertices to which each vertex leads.
 
 ghost use Rattle.std.specs.Prelude.{◌≡◌, ◌==◌, ℕ, ◌<◌, ◌&&◌, not, nat_lt, true, false, IfOk, OnOk, vec_len, length, map, slice_index_or};
 ghost use Rattle.std.specs.List.{list_any};
@@ -9,26 +9,26 @@ ghost use Rattle.rf_closure.specs.Marking.{Marking};
 use crate::search::no_marks;
 use std::alloc::{AllocError, Global};
 
-/// Whether number `b` is a place that is not marked yet.
+/// Whether number `b` is a vertex that is not marked yet.
 fn is_unmarked(marks: &[bool], b: u64) -> bool
     ensures { result ≡ (nat_lt b (length marks.now) && not (slice_index_or marks.now b false)) }
 {
     (b as usize) < marks.len() && !marks[b as usize]
 }
 
-/// Marks each place of the list, and puts those that were not marked on the stack. A number that is
-/// no place is passed over.
+/// Marks each vertex of the list, and puts those that were not marked on the stack. A number that isn't
+/// a vertex is passed over.
 fn mark_listed(
-    places: &[u64],
+    vertices: &[u64],
     marks: &mut Vec<bool>,
     stack: &mut Vec<u64>,
 ) -> Result<(), AllocError>
     ensures len { vec_len marks.new ≡ vec_len marks.old }
     ensures marks { OnOk result (Marking (vec_len marks.old)
-        (λ b. list_any (λ c. c == b) places.now)
+        (λ b. list_any (λ c. c == b) vertices.now)
         marks.old.items stack.old.items marks.new.items stack.new.items) }
 {
-    for b in places {
+    for b in vertices {
         if is_unmarked(marks, *b) {
             marks[*b as usize] = true;
             stack.push(*b)?;
@@ -37,7 +37,7 @@ fn mark_listed(
     Ok(())
 }
 
-/// Marks each place to which place `c` leads directly, and puts those that were not marked on the
+/// Marks each vertex to which vertex `c` leads directly, and puts those that were not marked on the
 /// stack.
 fn expand_along(
     successors: &[Vec<u64>],
@@ -55,13 +55,13 @@ fn expand_along(
     mark_listed(&successors[c as usize], marks, stack)
 }
 
-/// Marks each place to which a walk of one or more steps leads from `from`, where each place leads
-/// to the places of its list. So `from` itself is marked only where a walk leads back to it. A
-/// number that is no place counts for nothing.
+/// Marks each vertex to which a walk of one or more steps leads from `from`, where each vertex leads
+/// to the vertices of its list. So `from` itself is marked only where a walk leads back to it. A
+/// number that isn't a vertex counts for nothing.
 ///
-/// The list of each place is read at most once, so the time grows with the number of places and the
-/// lengths of their lists together. The memory is a mark for each place and a stack that holds each
-/// place at most once; where there is no room for them, the answer is an `AllocError`.
+/// The list of each vertex is read at most once, so the time grows with the number of vertices and the
+/// lengths of their lists together. The memory is a mark for each vertex and a stack that holds each
+/// vertex at most once; where memory runs out, the answer is an `AllocError`.
 pub fn reach_along(
     alloc: Global,
     successors: &[Vec<u64>],
@@ -70,7 +70,7 @@ pub fn reach_along(
     requires { from < length successors.now }
     ensures len { IfOk result (λ marks. vec_len marks ≡ length successors.now) }
 
-    // A place is marked exactly where a walk leads to it.
+    // A vertex is marked exactly where a walk leads to it.
     ensures value { IfOk result (λ marks. (b : ℕ) → b < length successors.now
         → slice_index_or marks.items b false
         ≡ walk_below (leads (map (λ list. list.items) successors.now)) (λ _. true)

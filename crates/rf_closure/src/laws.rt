@@ -2,12 +2,12 @@
 
 ghost use Rattle.rf_closure.specs.Laws.{WalksSplit, WalksJoin, WalksReverse, WalksNeedNoRepeats, WalksAreMonotone};
 
-/// An inner place of a walk splits it into two walks.
+/// An inner vertex of a walk splits it into two walks.
 pub fn split_law()
     ensures { WalksSplit }
 {}
 
-/// Two walks that meet at a place that may be passed through are one walk.
+/// Two walks that meet at a vertex that may be passed through are one walk.
 pub fn join_law()
     ensures { WalksJoin }
 {}
@@ -17,12 +17,12 @@ pub fn reverse_law()
     ensures { WalksReverse }
 {}
 
-/// Where there is a walk, there is one that visits no inner place twice.
+/// Where there is a walk, there is one that visits no inner vertex twice.
 pub fn no_repeats_law()
     ensures { WalksNeedNoRepeats }
 {}
 
-/// More edges and more places that may be passed through keep each walk.
+/// More edges and more vertices that may be passed through keep each walk.
 pub fn monotone_law()
     ensures { WalksAreMonotone }
 {}

@@ -1,4 +1,4 @@
-//! Which places can be reached over the edges between numbered places, where only some places may
+//! Which vertices can be reached over the edges between numbered vertices, where only some vertices may
 //! be passed through.
 #![tactic(auto)]
 
@@ -9,6 +9,3 @@ mod search;
 pub use along::reach_along;
 pub use laws::{join_law, monotone_law, no_repeats_law, reverse_law, split_law};
 pub use search::{Edges, reach};
-
-#[cfg(test)]
-mod tests;

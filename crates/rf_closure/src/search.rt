@@ -1,4 +1,4 @@
-//! The search from one place over all edges.
+//! The search from one vertex over all edges.
 
 ghost use Rattle.std.specs.Prelude.{◌≡◌, ◌==◌, ℕ, ◌<◌, ◌&&◌, ◌↔◌, not, Bool, false, IsTrue, IfOk, OnOk, vec_len, length, replicate, slice_index_or};
 ghost use Rattle.rf_finite.specs.Walks.{IsReachable, walk_below};
@@ -6,7 +6,7 @@ ghost use Rattle.rf_closure.specs.Marking.{Marking};
 
 use std::alloc::{AllocError, Global};
 
-/// Numbered places, the edges between them, and which of them a walk may pass through.
+/// Numbered vertices, the edges between them, and which of them a walk may pass through.
 pub trait Edges {
     ghost size: { Self → ℕ };
 
@@ -14,23 +14,23 @@ pub trait Edges {
 
     ghost through: { Self → ℕ → Bool };
 
-    /// The number of places.
+    /// The number of vertices.
     fn size(&self) -> u64
         ensures { result ≡ size self.now };
 
-    /// Whether an edge leads from place `a` to place `b`.
+    /// Whether an edge leads from vertex `a` to vertex `b`.
     fn edge(&self, a: u64, b: u64) -> bool
         requires from { a < size self.now }
         requires to { b < size self.now }
         ensures { result ≡ edge self.now a b };
 
-    /// Whether a walk may pass through place `a` on its way to another.
+    /// Whether a walk may pass through vertex `a` on its way to another.
     fn through(&self, a: u64) -> bool
         requires { a < size self.now }
         ensures { result ≡ through self.now a };
 }
 
-/// Whether place `b` is not marked yet and an edge leads to it from place `c`.
+/// Whether vertex `b` is not marked yet and an edge leads to it from vertex `c`.
 fn is_new_end<E: Edges>(e: &E, c: u64, b: u64, marks: &[bool]) -> bool
     requires from { c < E.size e.now }
     requires to { b < E.size e.now }
@@ -40,7 +40,7 @@ fn is_new_end<E: Edges>(e: &E, c: u64, b: u64, marks: &[bool]) -> bool
     !marks[b as usize] && e.edge(c, b)
 }
 
-/// Marks each place to which an edge leads from `c`, and puts those that were not marked on the stack.
+/// Marks each vertex to which an edge leads from `c`, and puts those that were not marked on the stack.
 fn expand<E: Edges>(
     e: &E,
     c: u64,
@@ -62,8 +62,8 @@ fn expand<E: Edges>(
     Ok(())
 }
 
-/// Whether place `c` is still to be expanded when it is found: the start is expanded already, and
-/// nothing is found through a place that no walk may pass through.
+/// Whether vertex `c` is still to be expanded when it is found: the start is expanded already, and
+/// nothing is found through a vertex that no walk may pass through.
 fn is_passed<E: Edges>(e: &E, from: u64, c: u64) -> bool
     requires { c < E.size e.now }
     ensures { result ≡ (not (c == from) && E.through e.now c) }
@@ -71,7 +71,7 @@ fn is_passed<E: Edges>(e: &E, from: u64, c: u64) -> bool
     c != from && e.through(c)
 }
 
-/// Marks for `size` places, none of them set. Where `size` is more than memory holds, the answer is
+/// Marks for `size` vertices, none of them set. Where memory runs out, the answer is
 /// an `AllocError`.
 pub(crate) fn no_marks(alloc: Global, size: u64) -> Result<Vec<bool>, AllocError>
     ensures { IfOk result (λ marks. marks.items ≡ replicate size false) }
@@ -79,17 +79,17 @@ pub(crate) fn no_marks(alloc: Global, size: u64) -> Result<Vec<bool>, AllocError
     vec![in alloc; false; size as usize]
 }
 
-/// Marks each place to which a walk of one or more edges leads from `from` over inner places that may
+/// Marks each vertex to which a walk of one or more edges leads from `from` over inner vertices that may
 /// be passed through. So `from` itself is marked only where a walk leads back to it.
 ///
-/// Each place is expanded at most once, by asking for the edges that lead from it to places that are
-/// not marked yet: at most `size` edges. The stack holds each place at most once. Where memory has no
-/// room for a mark of each place, the answer is an `AllocError`.
+/// Each vertex is expanded at most once, by asking for the edges that lead from it to vertices that are
+/// not marked yet: at most `size` edges. The stack holds each vertex at most once. Where memory runs
+/// out, the answer is an `AllocError`.
 pub fn reach<E: Edges>(alloc: Global, e: &E, from: u64) -> Result<Vec<bool>, AllocError>
     requires { from < E.size e.now }
     ensures len { IfOk result (λ marks. vec_len marks ≡ E.size e.now) }
 
-    // A place is marked exactly where a list of inner places is a walk to it.
+    // A vertex is marked exactly where a list of inner vertices is a walk to it.
     ensures marks { IfOk result (λ marks. (b : ℕ) → b < E.size e.now
         → IsTrue (slice_index_or marks.items b false)
         ↔ IsReachable (E.edge e.now) (E.through e.now) (E.size e.now) from b) }

@@ -1,4 +1,4 @@
--- When a place lies on a cycle, by the places that edges lead to from it.
+-- When a vertex lies on a cycle, by the vertices that edges lead to from it.
 use Rattle.std.proofs.Common.{◌≡◌, ℕ, zero, suc, ◌≤◌, ◌<◌, Bool, true, false, List, [], ◌∷◌, refl, sym, ◌∙◌, subst, inl, inr, arith}
 use Rattle.std.proofs.lemmas.Bool.{cases_Bool, both_ways, false_from_ne_true}
 use Rattle.rf_finite.specs.Range.{count_below}
@@ -13,7 +13,7 @@ module _ (edge : ℕ → ℕ → Bool) (n : ℕ) where
   abbrev on_cycle : ℕ → Bool
   on_cycle x = walk_below edge anywhere n x x
 
-  -- a cycle through z goes on over a place that an edge leads to from z, and that lies on it as well
+  -- a cycle through z goes on over a vertex that an edge leads to from z, and that lies on it as well
   pub off_cycle-from_ends : (z : ℕ) → z < n → ((k : ℕ) → k < n → edge z k ≡ true → on_cycle k ≡ false) → on_cycle z ≡ false
   off_cycle-from_ends z lz off = false_from_ne_true (on_cycle z) (λ h. let w = IsReachable-from_walk_below edge anywhere n z z h in go w.0 w.1 h)
     where
@@ -22,7 +22,7 @@ module _ (edge : ℕ → ℕ → Bool) (n : ℕ) where
       go (c ∷ cs) w h = both_ways (on_cycle c) (off c w.1 w.0)
           (walk_below-trans edge anywhere n c z c lz refl (walk_below-from_IsWalk edge anywhere n c cs z w.3) (walk_below-from_edge edge anywhere n z c w.0))
 
-  -- where one edge at most leads to each place, an edge leads from x to k, and k lies on a cycle, so does x
+  -- where one edge at most leads to each vertex, an edge leads from x to k, and k lies on a cycle, so does x
   on_cycle-from_end : ((x y z : ℕ) → edge x z ≡ true → edge y z ≡ true → x ≡ y) → (x k : ℕ) → x < n → k < n → edge x k ≡ true → on_cycle k ≡ true → on_cycle x ≡ true
   on_cycle-from_end one x k lx lk e h =
       let w = IsReachable-from_walk_below edge anywhere n k k h in
@@ -34,7 +34,7 @@ module _ (edge : ℕ → ℕ → Bool) (n : ℕ) where
             (subst (λ y. walk_below edge anywhere n k y ≡ true) here (walk_below-from_IsWalk edge anywhere n k t.2.0 r.0 t.2.1))
       ]
 
-  -- where one edge at most leads to each place, and from each place of a kind one leads to another of this kind, they lie on cycles
+  -- where one edge at most leads to each vertex, and from each vertex of a kind one leads to another of this kind, they lie on cycles
   pub on_cycle-from_ends : ((x y z : ℕ) → edge x z ≡ true → edge y z ≡ true → x ≡ y) → (Kind : ℕ → Type 0)
       → ((x : ℕ) → x < n → Kind x → (k : ℕ) × (k < n) × Kind k × (edge x k ≡ true))
       → (x : ℕ) → x < n → Kind x → on_cycle x ≡ true

@@ -1,4 +1,4 @@
--- Lemmas on tests, counts, sums and least places over the numbers below a bound.
+-- Lemmas on tests, counts, sums and first values over the numbers below a bound.
 use Rattle.std.proofs.Common.{◌≡◌, ℕ, zero, suc, ◌+◌, ◌≤◌, ◌<◌, Bool, true, false, cond, not, ◌&&◌, eqb, Option, Some, None, ◌⊎◌, refl, sym, ap, ◌∙◌, subst, inl, inr, arith, true≢false, add-one}
 use Rattle.std.proofs.lemmas.Bool.{and_parts, and_from, or_cases, or_left, or_right, or_from, cases_Bool, cases_eq, cases_order, both_ways, false_from_ne_true, ne_eqb, eq-eqb, eqb-true}
 use Rattle.std.specs.Option.{option_or}

@@ -1,4 +1,4 @@
--- Walks as lists of places, and by recursion on the bound of their inner places.
+-- Walks as lists of vertices, and by recursion on the bound of their inner vertices.
 use Rattle.std.proofs.Common.{◌≡◌, ℕ, zero, suc, ◌≤◌, ◌<◌, Bool, true, false, ◌&&◌, List, [], ◌∷◌, ◌++◌, ◌⊎◌, refl, sym, subst, eqb, length, inl, inr, arith, map}
 use Rattle.std.proofs.lemmas.Bool.{and_parts, and_from, or_cases, or_left, or_right, eqb-true, eq-eqb}
 use Rattle.std.specs.Prelude.{reverse, Contains}
@@ -10,18 +10,18 @@ use Rattle.rf_finite.proofs.Range.{below_or_last, count_below-le_bound, count_be
 use Rattle.rf_finite.proofs.Repeats.{cases_Contains, Contains-cons_cases, HasNoRepeats-rest, length-no_repeats}
 
 module _ (edge : ℕ → ℕ → Bool) (through : ℕ → Bool) where
-  -- two walks that meet at a place that may be passed through are one
+  -- two walks that meet at a vertex that may be passed through are one
   pub IsWalk-append : (n a : ℕ) (cs : List ℕ) (k : ℕ) (ds : List ℕ) (b : ℕ) → IsWalk edge through n a cs k → k < n → through k ≡ true
       → IsWalk edge through n k ds b → IsWalk edge through n a (cs ++ k ∷ ds) b
   IsWalk-append n a [] k ds b w l t v = (w, l, t, v)
   IsWalk-append n a (c ∷ cs) k ds b w l t v = (w.0, w.1, w.2, IsWalk-append n c cs k ds b w.3 l t v)
 
-  -- the part of a walk up to an inner place
+  -- the part of a walk up to an inner vertex
   pub IsWalk-before : (n a : ℕ) (cs : List ℕ) (k : ℕ) (ds : List ℕ) (b : ℕ) → IsWalk edge through n a (cs ++ k ∷ ds) b → IsWalk edge through n a cs k
   IsWalk-before n a [] k ds b w = w.0
   IsWalk-before n a (c ∷ cs) k ds b w = (w.0, w.1, w.2, IsWalk-before n c cs k ds b w.3)
 
-  -- an inner place is below n, may be passed through, and is the start of the rest of the walk
+  -- an inner vertex is below n, may be passed through, and is the start of the rest of the walk
   pub IsWalk-after : (n a : ℕ) (cs : List ℕ) (k : ℕ) (ds : List ℕ) (b : ℕ) → IsWalk edge through n a (cs ++ k ∷ ds) b
       → (k < n) × (through k ≡ true) × IsWalk edge through n k ds b
   IsWalk-after n a [] k ds b w = (w.1, w.2, w.3)
@@ -38,7 +38,7 @@ module _ (edge : ℕ → ℕ → Bool) (through : ℕ → Bool) where
   IsWalk-reverse n a [] b w = w
   IsWalk-reverse n a (c ∷ cs) b w = IsWalk-reverse_onto n c cs b [] a w.3 w.1 w.2 w.0
 
-  -- the last place before the end of a walk: where it begins, or one that a walk leads to
+  -- the last vertex before the end of a walk: where it begins, or one that a walk leads to
   pub IsWalk-last : (n a : ℕ) (cs : List ℕ) (b : ℕ) → IsWalk edge through n a cs b
       → (y : ℕ) × (edge y b ≡ true) × ((y ≡ a) ⊎ ((y < n) × (through y ≡ true) × IsReachable edge through n a y))
   IsWalk-last n a [] b w = (a, w, inl refl)
@@ -56,7 +56,7 @@ module _ (edge : ℕ → ℕ → Bool) (through : ℕ → Bool) where
   IsWalk-from_IsWalk_below m n a [] b l w = w
   IsWalk-from_IsWalk_below m n a (c ∷ cs) b l w = let below = w.1 in (w.0, omega arith, w.2, IsWalk-from_IsWalk_below m n c cs b l w.3)
 
-  -- a walk whose inner places differ, by leaving out what lies between two visits of a place
+  -- a walk whose inner vertices differ, by leaving out what lies between two visits of a vertex
   pub IsWalk-without_repeats : (n a : ℕ) (cs : List ℕ) (b : ℕ) → IsWalk edge through n a cs b → (ds : List ℕ) × IsWalk edge through n a ds b × HasNoRepeats ds
   IsWalk-without_repeats n a [] b w = ([], w, tt)
   IsWalk-without_repeats n a (c ∷ cs) b w =
@@ -68,7 +68,7 @@ module _ (edge : ℕ → ℕ → Bool) (through : ℕ → Bool) where
             (c ∷ s.1, (w.0, w.1, w.2, (IsWalk-after n c s.0 c s.1 b v).2), HasNoRepeats-rest s.0 (c ∷ s.1) u))
       ]
 
-  -- each inner place is below n and may be passed through
+  -- each inner vertex is below n and may be passed through
   pub IsWalk-inner : (n a : ℕ) (cs : List ℕ) (b : ℕ) → IsWalk edge through n a cs b → (c : ℕ) → Contains cs c → (c < n) × (through c ≡ true)
   IsWalk-inner n a [] b w c k = absurd (omega (arith, k.1))
   IsWalk-inner n a (d ∷ cs) b w c k = elim (Contains-cons_cases d cs c k) [
@@ -76,7 +76,7 @@ module _ (edge : ℕ → ℕ → Bool) (through : ℕ → Bool) where
     | inr t ↦ IsWalk-inner n d cs b w.3 c t
   ]
 
-  -- a walk whose inner places differ has at most n of them
+  -- a walk whose inner vertices differ has at most n of them
   pub IsWalk-length : (n a : ℕ) (cs : List ℕ) (b : ℕ) → IsWalk edge through n a cs b → HasNoRepeats cs → length cs ≤ n
   IsWalk-length n a cs b w d =
       let some = length-no_repeats n cs through d (IsWalk-inner n a cs b w) in
@@ -100,7 +100,7 @@ module _ (edge : ℕ → ℕ → Bool) (through : ℕ → Bool) where
   walk_below-pass n a b t h k = or_right (walk_below edge through n a b) (through n && (walk_below edge through n a n && walk_below edge through n n b))
       (and_from (through n) (walk_below edge through n a n && walk_below edge through n n b) t (and_from (walk_below edge through n a n) (walk_below edge through n n b) h k))
 
-  -- a walk need not pass the place where it ends, nor the one where it begins
+  -- a walk need not pass the vertex where it ends, nor the one where it begins
   walk_below-to_last : (n a : ℕ) → walk_below edge through (suc n) a n ≡ true → walk_below edge through n a n ≡ true
   walk_below-to_last n a h = elim (walk_below-cases n a n h) [ inl e ↦ e | inr v ↦ v.1 ]
 
@@ -146,7 +146,7 @@ module _ (edge : ℕ → ℕ → Bool) (through : ℕ → Bool) where
         ))
   ]
 
--- more edges, more places that may be passed through and a greater bound keep a walk
+-- more edges, more vertices that may be passed through and a greater bound keep a walk
 pub IsWalk-more : (edge edge' : ℕ → ℕ → Bool) (through through' : ℕ → Bool) (m n : ℕ) → m ≤ n
     → ((x y : ℕ) → x < n → y < n → edge x y ≡ true → edge' x y ≡ true) → ((x : ℕ) → x < n → through x ≡ true → through' x ≡ true)
     → (a : ℕ) (cs : List ℕ) (b : ℕ) → a < n → b < n → IsWalk edge through m a cs b → IsWalk edge' through' n a cs b
@@ -156,7 +156,7 @@ IsWalk-more edge edge' through through' m n l more_edges more_through a (c ∷ c
     let lc : c < n = omega arith in
     (more_edges a c la lc w.0, lc, more_through c lc w.2, IsWalk-more edge edge' through through' m n l more_edges more_through c cs b lc lb w.3)
 
--- a walk carried along a map of places is a walk over the places that they go to
+-- a walk carried along a map of vertices is a walk over the vertices that they go to
 pub IsWalk-map : (edge edge' : ℕ → ℕ → Bool) (through through' : ℕ → Bool) (m n : ℕ) (to : ℕ → ℕ)
     → ((x y : ℕ) → edge x y ≡ true → edge' (to x) (to y) ≡ true) → ((x : ℕ) → x < m → through x ≡ true → (to x < n) × (through' (to x) ≡ true))
     → (a : ℕ) (cs : List ℕ) (b : ℕ) → IsWalk edge through m a cs b → IsWalk edge' through' n (to a) (map to cs) (to b)
@@ -165,7 +165,7 @@ IsWalk-map edge edge' through through' m n to edges inner a (c ∷ cs) b w =
     let here = inner c w.1 w.2 in
     (edges a c w.0, here.0, here.1, IsWalk-map edge edge' through through' m n to edges inner c cs b w.3)
 
--- a walk followed along a relation of places: it leads between any places that its ends are related to
+-- a walk followed along a relation of vertices: it leads between any vertices that its ends are related to
 pub IsReachable-along : (edge edge' : ℕ → ℕ → Bool) (through through' : ℕ → Bool) (m n : ℕ) (Rel : ℕ → ℕ → Type 0)
     → ((x y u v : ℕ) → Rel x u → Rel y v → edge x y ≡ true → edge' u v ≡ true)
     → ((x : ℕ) → x < m → through x ≡ true → (u : ℕ) × Rel x u × (u < n) × (through' u ≡ true))
@@ -176,7 +176,7 @@ IsReachable-along edge edge' through through' m n Rel edges inner a (c ∷ cs) b
     let rest = IsReachable-along edge edge' through through' m n Rel edges inner c cs b here.0 v here.1 to w.3 in
     (here.0 ∷ rest.0, (edges a c u here.0 from here.1 w.0, here.2, here.3, rest.1))
 
--- walks depend on the edges and the tests of the places below the bound alone
+-- walks depend on the edges and the tests of the vertices below the bound alone
 pub walk_below-same : (edge edge' : ℕ → ℕ → Bool) (through through' : ℕ → Bool) (n : ℕ)
     → ((x y : ℕ) → x < n → y < n → edge x y ≡ edge' x y) → ((x : ℕ) → x < n → through x ≡ through' x)
     → (k a b : ℕ) → k ≤ n → a < n → b < n → walk_below edge through k a b ≡ walk_below edge' through' k a b
@@ -211,7 +211,7 @@ walk_below-reverse edge through n a b = same_tests (walk_below (λ x y. edge y x
     (λ h. let w = IsReachable-from_walk_below edge through n a b h in
     let v = IsReachable-reverse edge through n a b w in walk_below-from_IsWalk (λ x y. edge y x) through n b v.0 a v.1)
 
--- more edges, more places that may be passed through and a greater bound keep what can be reached
+-- more edges, more vertices that may be passed through and a greater bound keep what can be reached
 pub walk_below-more : (edge edge' : ℕ → ℕ → Bool) (through through' : ℕ → Bool) (m n : ℕ) → m ≤ n
     → ((x y : ℕ) → x < n → y < n → edge x y ≡ true → edge' x y ≡ true) → ((x : ℕ) → x < n → through x ≡ true → through' x ≡ true)
     → (a b : ℕ) → a < n → b < n → walk_below edge through m a b ≡ true → walk_below edge' through' n a b ≡ true
@@ -223,7 +223,7 @@ module _ (edge : ℕ → ℕ → Bool) (n : ℕ) where
   abbrev anywhere : ℕ → Bool
   anywhere _ = true
 
-  -- how many places can be reached falls along an edge to a place from which no walk leads back to it
+  -- how many vertices can be reached falls along an edge to a vertex from which no walk leads back to it
   pub count_below-reachable_falls_at : (x y : ℕ) → x < n → y < n → edge x y ≡ true → (IsReachable edge anywhere n y y → ⊥)
       → count_below n (walk_below edge anywhere n y) < count_below n (walk_below edge anywhere n x)
   count_below-reachable_falls_at x y lx ly e no_way_back =

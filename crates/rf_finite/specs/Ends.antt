@@ -1,4 +1,4 @@
--- Upper ends of counts, where `None` is no end.
+-- Upper ends of counts, where `None` means unbounded.
 use Rattle.std.specs.Prelude.{ℕ, zero, suc, ◌+◌, Bool, true, if◌then◌else◌, nat_le, Option, Some, None}
 
 -- whether n is at most this end

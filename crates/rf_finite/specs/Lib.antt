@@ -1,4 +1,5 @@
+-- what public contracts cite, in the order of reading
 pub mod Lists
 pub mod Range
-pub mod Ends
 pub mod Walks
+pub mod Ends

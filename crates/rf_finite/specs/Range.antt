@@ -1,4 +1,4 @@
--- Tests, counts, sums and least places over the numbers below a bound.
+-- Tests, counts, sums and first values over the numbers below a bound.
 use Rattle.std.specs.Prelude.{◌≡◌, ◌↔◌, ℕ, zero, suc, ◌+◌, ◌<◌, Bool, true, false, if◌then◌else◌, ◌&&◌, ◌||◌, Option, Some, None, List, length, Contains}
 use Rattle.std.specs.Option.{option_or}
 use Rattle.rf_finite.specs.Lists.{HasNoRepeats}

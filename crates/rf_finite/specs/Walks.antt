@@ -1,8 +1,8 @@
--- Walks over the edges between numbered places.
+-- Walks over the edges between numbered vertices.
 use Rattle.std.specs.Prelude.{◌≡◌, ℕ, zero, suc, ◌<◌, Bool, true, ◌&&◌, ◌||◌, List, [], ◌∷◌, ◌↔◌}
 
--- a walk from a over these inner places, in this order, to b: each inner place is below n and may be
--- passed through, and an edge leads from each place to the next
+-- a walk from a over these inner vertices, in this order, to b: each inner vertex is below n and may be
+-- passed through, and an edge leads from each vertex to the next
 abbrev pub IsWalk : (ℕ → ℕ → Bool) → (ℕ → Bool) → ℕ → ℕ → List ℕ → ℕ → Type 0
 IsWalk edge through n a [] b = edge a b ≡ true
 IsWalk edge through n a (c ∷ cs) b = (edge a c ≡ true) × (c < n) × (through c ≡ true) × IsWalk edge through n c cs b
@@ -11,21 +11,21 @@ IsWalk edge through n a (c ∷ cs) b = (edge a c ≡ true) × (c < n) × (throug
 abbrev pub IsReachable : (ℕ → ℕ → Bool) → (ℕ → Bool) → ℕ → ℕ → ℕ → Type 0
 IsReachable edge through n a b = (inner : List ℕ) × IsWalk edge through n a inner b
 
--- whether a walk leads from a to b, by recursion on the bound of its inner places: a walk through the
--- greatest place passes it between two walks through smaller ones
+-- whether a walk leads from a to b, by recursion on the bound of its inner vertices: a walk through the
+-- greatest vertex passes it between two walks through smaller ones
 abbrev pub walk_below : (ℕ → ℕ → Bool) → (ℕ → Bool) → ℕ → ℕ → ℕ → Bool
 walk_below edge through zero a b = edge a b
 walk_below edge through (suc n) a b =
     walk_below edge through n a b
     || (through n && (walk_below edge through n a n && walk_below edge through n n b))
 
--- the recursion finds a walk exactly where there is one as a list of places
+-- the recursion finds a walk exactly where there is one as a list of vertices
 abbrev pub WalkBelowFindsWalks : Type 0
 WalkBelowFindsWalks =
     (edge : ℕ → ℕ → Bool) (through : ℕ → Bool) (n a b : ℕ)
     → (walk_below edge through n a b ≡ true) ↔ IsReachable edge through n a b
 
--- no walk leads from a place back to it exactly where a rank falls along each edge
+-- no walk leads from a vertex back to it exactly where a rank falls along each edge
 abbrev pub NoCycleIsRank : Type 0
 NoCycleIsRank =
     (edge : ℕ → ℕ → Bool) (n : ℕ)

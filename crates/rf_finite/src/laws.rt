@@ -24,12 +24,12 @@ pub fn first_below_law()
     ensures none { FirstBelowIsNone }
 {}
 
-/// Walks by recursion on the bound of their inner places are walks by the list of them.
+/// Walks by recursion on the bound of their inner vertices are walks by the list of them.
 pub fn walk_law()
     ensures { WalkBelowFindsWalks }
 {}
 
-/// There is no cycle exactly where places can be ranked so that each edge leads to a lower rank.
+/// There is no cycle exactly where vertices can be ranked so that each edge leads to a lower rank.
 pub fn no_cycle_law()
     ensures { NoCycleIsRank }
 {}

@@ -1,12 +1,14 @@
-//! Finitely many things: tests, counts, sums and least places over the numbers below a bound,
-//! upper ends of counts, and walks over edges between numbered places. Most of it are definitions
-//! for contracts, with their lemmas.
+//! Finitely many things: tests, counts, sums and first values over the numbers below a bound, upper
+//! ends of counts, and walks over edges between numbered vertices. Most of it are definitions for
+//! contracts, with their lemmas.
 #![tactic(auto)]
 
 mod laws;
+mod rule;
 mod upper_ends;
 
 pub use laws::{
     all_below_law, count_below_law, first_below_law, no_cycle_law, some_below_law, walk_law,
 };
+pub use rule::{Rule, first_found};
 pub use upper_ends::{add_ends, within};

@@ -1,4 +1,4 @@
-//! Upper ends of counts, where `None` is no end.
+//! Upper ends of counts, where `None` means unbounded.
 
 ghost use Rattle.std.specs.Prelude.{◌≡◌, ◌^◌, ◌<◌, IfSome};
 ghost use Rattle.rf_finite.specs.Ends.{within, add_ends};
@@ -21,19 +21,5 @@ pub fn add_ends(a: Option<u64>, b: Option<u64>) -> Option<u64>
     match (a, b) {
         (Some(x), Some(y)) => Some(x + y),
         _ => None,
-    }
-}
-
-#[cfg(test)]
-mod tests {
-    use super::*;
-
-    #[test]
-    fn compares_and_adds_ends(rt: HostRuntime) {
-        assert!(rt; within(3, Some(3)));
-        assert!(rt; !within(4, Some(3)));
-        assert!(rt; within(u64::MAX, None));
-        assert_eq!(rt; add_ends(Some(2), Some(3)), Some(5));
-        assert_eq!(rt; add_ends(Some(2), None), None);
     }
 }

@@ -13,20 +13,20 @@ use Rattle.rf_graph.specs.declared.read.GraphError.TheVariants.{BadLine, Memory}
 -- what begins with so many lines begins with fewer
 pub Begins-fewer : (p : Problem) (bytes : List ℕ) (j k : ℕ) → j ≤ k → Begins p bytes k → Begins p bytes j
 Begins-fewer p bytes j k fewer b =
-    let parts : take j b.front ++ drop j b.front ≡ b.front = take-append-drop j b.front in
-    let room : j ≤ length b.front = omega (arith, b.many) in
+    let parts : take j b.prefix ++ drop j b.prefix ≡ b.prefix = take-append-drop j b.prefix in
+    let room : j ≤ length b.prefix = omega (arith, b.many) in
     record {
-      front = take j b.front;
-      rest = joined_lines (drop j b.front) ++ b.rest;
+      prefix = take j b.prefix;
+      rest = joined_lines (drop j b.prefix) ++ b.rest;
       graph = b.graph;
-      more = drop j b.front ++ b.more;
+      more = drop j b.prefix ++ b.more;
       fits = b.fits;
-      many = omega (arith, length-take j b.front);
+      many = omega (arith, length-take j b.prefix);
       begun =
           b.begun ∙ ap (λ ls. joined_lines ls ++ b.rest) (sym parts)
-          ∙ ap (λ bs. bs ++ b.rest) (joined_lines-append (take j b.front) (drop j b.front))
-          ∙ append_assoc (joined_lines (take j b.front)) (joined_lines (drop j b.front)) b.rest;
-      continued = b.continued ∙ ap (λ ls. ls ++ b.more) (sym parts) ∙ append_assoc (take j b.front) (drop j b.front) b.more;
+          ∙ ap (λ bs. bs ++ b.rest) (joined_lines-append (take j b.prefix) (drop j b.prefix))
+          ∙ append_assoc (joined_lines (take j b.prefix)) (joined_lines (drop j b.prefix)) b.rest;
+      continued = b.continued ∙ ap (λ ls. ls ++ b.more) (sym parts) ∙ append_assoc (take j b.prefix) (drop j b.prefix) b.more;
     }
 
 -- no bad line comes before another

@@ -9,20 +9,20 @@ use Rattle.rf_finite.proofs.Range.{None-ne_Some}
 use Rattle.rf_problem.specs.declared.problem.Problem.{Problem}
 use Rattle.rf_graph.specs.First.{first_asserted, first_class, first_containers, first_cycle, first_degree, first_edge, first_object, first_opposite, first_scope, first_violation}
 use Rattle.rf_graph.specs.Graph.{Fits}
-use Rattle.rf_graph.specs.Violations.{FirstViolation, IsBefore, IsVerdict, IsViolation, Sat, Shaped, place_of}
+use Rattle.rf_graph.specs.Violations.{FirstViolation, IsBefore, IsVerdict, IsViolation, Sat, Shaped, sort_key}
 use Rattle.rf_graph.specs.declared.graph.Graph.{Graph}
 use Rattle.rf_graph.specs.declared.verdict.Verdict.{Verdict}
 use Rattle.rf_graph.specs.declared.verdict.Verdict.TheVariants.{Satisfied, Violated}
 use Rattle.rf_graph.specs.declared.verdict.Violation.{Violation}
 use Rattle.rf_graph.specs.declared.verdict.Violation.TheVariants.{Class, Edge, Opposite, Degree, Containers, Cycle, Object, Asserted, Scope}
-use Rattle.rf_graph.proofs.Firsts.{Behind, From, IsFirst, IsFirst-last, IsFirst-none, IsFirst-or, IsFirst-same}
-use Rattle.rf_graph.proofs.FirstOfKind.{Broken, Misheld, Misplaced, OfAbstractClass, OffScope, OnCycle, OneWay, OutOfRange, Unkept, first_asserted-IsFirst, first_class-IsFirst, first_containers-IsFirst, first_cycle-IsFirst, first_degree-IsFirst, first_edge-IsFirst, first_object-IsFirst, first_opposite-IsFirst, first_scope-IsFirst}
+use Rattle.rf_graph.proofs.Firsts.{HasPrefix, From, IsFirst, IsFirst-last, IsFirst-none, IsFirst-or, IsFirst-same}
+use Rattle.rf_graph.proofs.FirstOfKind.{Broken, WronglyContained, Misplaced, OfAbstractClass, OffScope, OnCycle, OneWay, OutOfRange, Unsatisfied, first_asserted-IsFirst, first_class-IsFirst, first_containers-IsFirst, first_cycle-IsFirst, first_degree-IsFirst, first_edge-IsFirst, first_object-IsFirst, first_opposite-IsFirst, first_scope-IsFirst}
 
 -- of two violations not each stands before the other
 IsBefore-not_both : (v w : Violation) → IsBefore v w → IsBefore w v → ⊥
 IsBefore-not_both v w first second =
-    let turned : slice_cmp nat_cmp (place_of v) (place_of w) ≡ ordering_reverse (slice_cmp nat_cmp (place_of w) (place_of v)) = nat_list_cmp_total.antisymm (place_of v) (place_of w) in
-    let greater : ordering_reverse (slice_cmp nat_cmp (place_of w) (place_of v)) ≡ Greater = ap ordering_reverse second in
+    let turned : slice_cmp nat_cmp (sort_key v) (sort_key w) ≡ ordering_reverse (slice_cmp nat_cmp (sort_key w) (sort_key v)) = nat_list_cmp_total.antisymm (sort_key v) (sort_key w) in
+    let greater : ordering_reverse (slice_cmp nat_cmp (sort_key w) (sort_key v)) ≡ Greater = ap ordering_reverse second in
     let same : Less ≡ Greater = sym first ∙ (turned ∙ greater) in cc
 
 module _ (p : Problem) (g : Graph) where
@@ -31,13 +31,13 @@ module _ (p : Problem) (g : Graph) where
   From7 v = Broken p g v ⊎ OffScope p g v
 
   abbrev From6 : Violation → Type 0
-  From6 v = Unkept p g v ⊎ From7 v
+  From6 v = Unsatisfied p g v ⊎ From7 v
 
   abbrev From5 : Violation → Type 0
   From5 v = OnCycle p g v ⊎ From6 v
 
   abbrev From4 : Violation → Type 0
-  From4 v = Misheld p g v ⊎ From5 v
+  From4 v = WronglyContained p g v ⊎ From5 v
 
   abbrev From3 : Violation → Type 0
   From3 v = OutOfRange p g v ⊎ From4 v
@@ -97,11 +97,11 @@ module _ (p : Problem) (g : Graph) where
       let o7 : Option Violation = option_or (first_asserted p g) (first_scope p g) in
       let from7 : IsFirst (From [] 7) From7 o7 = IsFirst-or [] 7 (Broken p g) (OffScope p g) (first_asserted p g) (first_scope p g) (first_asserted-IsFirst p g) from8 in
       let o6 : Option Violation = option_or (first_object p g) o7 in
-      let from6 : IsFirst (From [] 6) From6 o6 = IsFirst-or [] 6 (Unkept p g) From7 (first_object p g) o7 (first_object-IsFirst p g) from7 in
+      let from6 : IsFirst (From [] 6) From6 o6 = IsFirst-or [] 6 (Unsatisfied p g) From7 (first_object p g) o7 (first_object-IsFirst p g) from7 in
       let o5 : Option Violation = option_or (first_cycle p g) o6 in
       let from5 : IsFirst (From [] 5) From5 o5 = IsFirst-or [] 5 (OnCycle p g) From6 (first_cycle p g) o6 (first_cycle-IsFirst p g) from6 in
       let o4 : Option Violation = option_or (first_containers p g) o5 in
-      let from4 : IsFirst (From [] 4) From4 o4 = IsFirst-or [] 4 (Misheld p g) From5 (first_containers p g) o5 (first_containers-IsFirst p g) from5 in
+      let from4 : IsFirst (From [] 4) From4 o4 = IsFirst-or [] 4 (WronglyContained p g) From5 (first_containers p g) o5 (first_containers-IsFirst p g) from5 in
       let o3 : Option Violation = option_or (first_degree p g) o4 in
       let from3 : IsFirst (From [] 3) From3 o3 = IsFirst-or [] 3 (OutOfRange p g) From4 (first_degree p g) o4 (first_degree-IsFirst p g) from4 in
       let o2 : Option Violation = option_or (first_opposite p g) o3 in
@@ -137,10 +137,10 @@ module _ (p : Problem) (g : Graph) where
 
   -- and a graph satisfies the problem where none is
   pub Sat-from_no_violation : Fits p g → first_violation p g ≡ None → Sat p g
-  Sat-from_no_violation fits e = record { fits = fits; kept = (first_violation-IsFirst fits).none e }
+  Sat-from_no_violation fits e = record { fits = fits; no_violation = (first_violation-IsFirst fits).none e }
 
   pub no_violation-from_Sat : Fits p g → Sat p g → first_violation p g ≡ None
-  no_violation-from_Sat fits s = IsFirst-none (From [] 0) (IsViolation p g) (first_violation p g) (first_violation-IsFirst fits) s.kept
+  no_violation-from_Sat fits s = IsFirst-none (From [] 0) (IsViolation p g) (first_violation p g) (first_violation-IsFirst fits) s.no_violation
 
   -- where none of the first six kinds is found, no violation of these kinds is there
   pub Shaped-from_none : Fits p g → first_class p g ≡ None → first_edge p g ≡ None → first_opposite p g ≡ None → first_degree p g ≡ None
@@ -159,12 +159,12 @@ module _ (p : Problem) (g : Graph) where
   pub none-from_Shaped : Fits p g → Shaped p g
       → (first_class p g ≡ None) × (first_edge p g ≡ None) × (first_opposite p g ≡ None) × (first_degree p g ≡ None) × (first_containers p g ≡ None) × (first_cycle p g ≡ None)
   none-from_Shaped fits shaped = (
-    IsFirst-none (Behind (0 ∷ [])) (OfAbstractClass p g) (first_class p g) (first_class-IsFirst p g) (λ v k. shaped (Class k.0) refl k.2),
-    IsFirst-none (Behind (1 ∷ [])) (Misplaced p g) (first_edge p g) (first_edge-IsFirst p g fits) (λ v k. shaped (Edge k.0 k.1 k.2) refl k.4),
-    IsFirst-none (Behind (2 ∷ [])) (OneWay p g) (first_opposite p g) (first_opposite-IsFirst p g fits) (λ v k. shaped (Opposite k.0 k.1 k.2) refl k.4),
-    IsFirst-none (Behind (3 ∷ [])) (OutOfRange p g) (first_degree p g) (first_degree-IsFirst p g) (λ v k. shaped (Degree k.0 k.1) refl k.3),
-    IsFirst-none (Behind (4 ∷ [])) (Misheld p g) (first_containers p g) (first_containers-IsFirst p g) (λ v k. shaped (Containers k.0) refl k.2),
-    IsFirst-none (Behind (5 ∷ [])) (OnCycle p g) (first_cycle p g) (first_cycle-IsFirst p g) (λ v k. shaped (Cycle k.0) refl k.2),
+    IsFirst-none (HasPrefix (0 ∷ [])) (OfAbstractClass p g) (first_class p g) (first_class-IsFirst p g) (λ v k. shaped (Class k.0) refl k.2),
+    IsFirst-none (HasPrefix (1 ∷ [])) (Misplaced p g) (first_edge p g) (first_edge-IsFirst p g fits) (λ v k. shaped (Edge k.0 k.1 k.2) refl k.4),
+    IsFirst-none (HasPrefix (2 ∷ [])) (OneWay p g) (first_opposite p g) (first_opposite-IsFirst p g fits) (λ v k. shaped (Opposite k.0 k.1 k.2) refl k.4),
+    IsFirst-none (HasPrefix (3 ∷ [])) (OutOfRange p g) (first_degree p g) (first_degree-IsFirst p g) (λ v k. shaped (Degree k.0 k.1) refl k.3),
+    IsFirst-none (HasPrefix (4 ∷ [])) (WronglyContained p g) (first_containers p g) (first_containers-IsFirst p g) (λ v k. shaped (Containers k.0) refl k.2),
+    IsFirst-none (HasPrefix (5 ∷ [])) (OnCycle p g) (first_cycle p g) (first_cycle-IsFirst p g) (λ v k. shaped (Cycle k.0) refl k.2),
   )
 
   -- the violation that a verdict names

@@ -22,44 +22,44 @@ use Rattle.rf_problem.specs.declared.symbol.Symbol.{Symbol}
 use Rattle.rf_problem.specs.declared.symbol.Symbol.TheVariants.{Class as OfClass, Reference, Predicate, Exists, Equals}
 use Rattle.rf_problem.proofs.Below.{IsBelow-from_is_below, is_below-from_IsBelow}
 use Rattle.rf_graph.specs.Evaluate.{holds}
-use Rattle.rf_graph.specs.First.{breaks, first_asserted, first_broken, first_class, first_containers, first_cycle, first_degree, first_edge, first_edge_of, first_object, first_opposite, first_scope, fits_ends, has_mirror, has_stranger, is_in_range, is_misheld, may_have_class, when}
+use Rattle.rf_graph.specs.First.{breaks, first_asserted, first_broken, first_class, first_containers, first_cycle, first_degree, first_edge, first_edge_of, first_object, first_opposite, first_scope, fits_ends, has_mirror, has_stranger, is_in_range, is_wrongly_contained, may_have_class, when}
 use Rattle.rf_graph.specs.Graph.{Fits, FitsEdge, HasEdge, class_of, has_edge, origin_of, size_of}
 use Rattle.rf_graph.specs.Holds.{Holds}
-use Rattle.rf_graph.specs.Violations.{Breaks, HasStranger, IsBroken, IsMisheld, IsMisplaced, IsOfAbstractClass, IsOffScope, IsOnCycle, IsOneWay, IsOutOfRange, IsUnkept, container_count, degree_of, holds_in, is_counted, nodes_from, place_of}
+use Rattle.rf_graph.specs.Violations.{Breaks, HasStranger, IsBroken, IsWronglyContained, IsMisplaced, IsOfAbstractClass, IsOffScope, IsOnCycle, IsOneWay, IsOutOfRange, IsUnsatisfied, container_count, degree_of, contains_in, is_counted, nodes_from, sort_key}
 use Rattle.rf_graph.specs.declared.graph.Graph.{Graph}
 use Rattle.rf_graph.specs.declared.verdict.Violation.{Violation}
 use Rattle.rf_graph.specs.declared.verdict.Violation.TheVariants.{Class, Edge, Opposite, Degree, Containers, Cycle, Object, Asserted, Scope}
 use Rattle.rf_graph.proofs.Edges.{HasEdge-from_has_edge, has_edge-from_HasEdge}
-use Rattle.rf_graph.proofs.Firsts.{Behind, IsFirst, IsFirst-below, IsFirst-last, IsFirst-or, IsFirst-row, IsFirst-same, IsFirst-tuple, IsFirst-when, IsThis, SomeBelow, SomeTuple}
+use Rattle.rf_graph.proofs.Firsts.{HasPrefix, IsFirst, IsFirst-below, IsFirst-last, IsFirst-or, IsFirst-row, IsFirst-same, IsFirst-tuple, IsFirst-when, IsThis, SomeBelow, SomeTuple}
 use Rattle.rf_graph.proofs.Meaning.{Holds-from_holds, holds-from_Holds}
 
 -- violations of one number below a bound
-IsFirst-numbers : (kind n : ℕ) (this : ℕ → Violation) (test : ℕ → Bool) → ((x : ℕ) → place_of (this x) ≡ kind ∷ x ∷ [])
-    → IsFirst (Behind (kind ∷ [])) (SomeBelow n (λ x. IsThis (this x) (test x))) (first_below n (λ x. when (test x) (this x)))
-IsFirst-numbers kind n this test place = IsFirst-below (kind ∷ []) n (λ x. when (test x) (this x)) (λ x. IsThis (this x) (test x))
-    (λ x l. IsFirst-when (this x) (test x) (kind ∷ x ∷ []) (place x))
+IsFirst-numbers : (kind n : ℕ) (this : ℕ → Violation) (test : ℕ → Bool) → ((x : ℕ) → sort_key (this x) ≡ kind ∷ x ∷ [])
+    → IsFirst (HasPrefix (kind ∷ [])) (SomeBelow n (λ x. IsThis (this x) (test x))) (first_below n (λ x. when (test x) (this x)))
+IsFirst-numbers kind n this test key = IsFirst-below (kind ∷ []) n (λ x. when (test x) (this x)) (λ x. IsThis (this x) (test x))
+    (λ x l. IsFirst-when (this x) (test x) (kind ∷ x ∷ []) (key x))
 
 module _ (p : Problem) (g : Graph) where
   -- violations of an edge
   abbrev AtEdges : (ℕ → ℕ → ℕ → Violation) → (ℕ → ℕ → ℕ → Bool) → Violation → Type 0
   AtEdges this test = SomeBelow (length p.references) (λ r. SomeBelow (size_of g) (λ x. SomeBelow (size_of g) (λ y. IsThis (this r x y) (test r x y))))
 
-  IsFirst-edges : (kind : ℕ) (this : ℕ → ℕ → ℕ → Violation) (test : ℕ → ℕ → ℕ → Bool) → ((r x y : ℕ) → place_of (this r x y) ≡ kind ∷ r ∷ x ∷ y ∷ [])
-      → IsFirst (Behind (kind ∷ [])) (AtEdges this test) (first_edge_of p g (λ r x y. when (test r x y) (this r x y)))
-  IsFirst-edges kind this test place =
+  IsFirst-edges : (kind : ℕ) (this : ℕ → ℕ → ℕ → Violation) (test : ℕ → ℕ → ℕ → Bool) → ((r x y : ℕ) → sort_key (this r x y) ≡ kind ∷ r ∷ x ∷ y ∷ [])
+      → IsFirst (HasPrefix (kind ∷ [])) (AtEdges this test) (first_edge_of p g (λ r x y. when (test r x y) (this r x y)))
+  IsFirst-edges kind this test key =
       IsFirst-below (kind ∷ []) (length p.references) (λ r. first_below (size_of g) (λ x. first_below (size_of g) (λ y. when (test r x y) (this r x y))))
       (λ r. SomeBelow (size_of g) (λ x. SomeBelow (size_of g) (λ y. IsThis (this r x y) (test r x y))))
       (λ r k. IsFirst-below (kind ∷ r ∷ []) (size_of g) (λ x. first_below (size_of g) (λ y. when (test r x y) (this r x y)))
       (λ x. SomeBelow (size_of g) (λ y. IsThis (this r x y) (test r x y)))
       (λ x l. IsFirst-below (kind ∷ r ∷ x ∷ []) (size_of g) (λ y. when (test r x y) (this r x y)) (λ y. IsThis (this r x y) (test r x y))
-      (λ y m. IsFirst-when (this r x y) (test r x y) (kind ∷ r ∷ x ∷ y ∷ []) (place r x y))))
+      (λ y m. IsFirst-when (this r x y) (test r x y) (kind ∷ r ∷ x ∷ y ∷ []) (key r x y))))
 
   -- nodes of abstract classes
   abbrev pub OfAbstractClass : Violation → Type 0
   OfAbstractClass v = (x : ℕ) × (v ≡ Class x) × IsOfAbstractClass p g x
 
-  pub first_class-IsFirst : IsFirst (Behind (0 ∷ [])) OfAbstractClass (first_class p g)
-  first_class-IsFirst = IsFirst-same (Behind (0 ∷ [])) (SomeBelow (size_of g) (λ x. IsThis (Class x) (class_at p.classes (class_of g x)).is_abstract)) OfAbstractClass (first_class p g)
+  pub first_class-IsFirst : IsFirst (HasPrefix (0 ∷ [])) OfAbstractClass (first_class p g)
+  first_class-IsFirst = IsFirst-same (HasPrefix (0 ∷ [])) (SomeBelow (size_of g) (λ x. IsThis (Class x) (class_at p.classes (class_of g x)).is_abstract)) OfAbstractClass (first_class p g)
       (IsFirst-numbers 0 (size_of g) (λ x. Class x) (λ x. (class_at p.classes (class_of g x)).is_abstract) (λ x. refl))
       (λ v s. (s.0, s.2.0, record { node = s.1; abstract_class = s.2.1 }))
       (λ v s. (s.0, s.2.node, (s.1, s.2.abstract_class)))
@@ -90,8 +90,8 @@ module _ (p : Problem) (g : Graph) where
       m.ends (IsBelow-from_is_below p.classes (class_of g x) (reference_at p.references r).source parts.0)
       (IsBelow-from_is_below p.classes (class_of g y) (reference_at p.references r).target parts.1))))
 
-  pub first_edge-IsFirst : Fits p g → IsFirst (Behind (1 ∷ [])) Misplaced (first_edge p g)
-  first_edge-IsFirst fits = IsFirst-same (Behind (1 ∷ [])) (AtEdges (λ r x y. Edge r x y) (λ r x y. has_edge g r x y && not (fits_ends p g r x y))) Misplaced (first_edge p g)
+  pub first_edge-IsFirst : Fits p g → IsFirst (HasPrefix (1 ∷ [])) Misplaced (first_edge p g)
+  first_edge-IsFirst fits = IsFirst-same (HasPrefix (1 ∷ [])) (AtEdges (λ r x y. Edge r x y) (λ r x y. has_edge g r x y && not (fits_ends p g r x y))) Misplaced (first_edge p g)
       (IsFirst-edges 1 (λ r x y. Edge r x y) (λ r x y. has_edge g r x y && not (fits_ends p g r x y)) (λ r x y. refl))
       (λ v s. (s.0, s.2.0, s.2.2.0, s.2.2.2.0, IsMisplaced-from_test s.0 s.2.0 s.2.2.0 s.2.2.2.1))
       (λ v s. (let fit = edge-fits fits s.0 s.1 s.2 s.4.edge in
@@ -109,9 +109,9 @@ module _ (p : Problem) (g : Graph) where
   test-from_missing o s x y e missing = subst (λ (o : Option ℕ). has_mirror g o x y ≡ false) (sym e)
       (false_from_ne_true (has_edge g s y x) (λ h. missing (HasEdge-from_has_edge g s y x h)))
 
-  pub first_opposite-IsFirst : Fits p g → IsFirst (Behind (2 ∷ [])) OneWay (first_opposite p g)
+  pub first_opposite-IsFirst : Fits p g → IsFirst (HasPrefix (2 ∷ [])) OneWay (first_opposite p g)
   first_opposite-IsFirst fits =
-      IsFirst-same (Behind (2 ∷ [])) (AtEdges (λ r x y. Opposite r x y) (λ r x y. has_edge g r x y && not (has_mirror g (reference_at p.references r).opposite x y))) OneWay (first_opposite p g)
+      IsFirst-same (HasPrefix (2 ∷ [])) (AtEdges (λ r x y. Opposite r x y) (λ r x y. has_edge g r x y && not (has_mirror g (reference_at p.references r).opposite x y))) OneWay (first_opposite p g)
       (IsFirst-edges 2 (λ r x y. Opposite r x y) (λ r x y. has_edge g r x y && not (has_mirror g (reference_at p.references r).opposite x y)) (λ r x y. refl))
       (λ v s. (s.0, s.2.0, s.2.2.0, s.2.2.2.0, to s.0 s.2.0 s.2.2.0 s.2.2.2.1))
       (λ v s. (let fit = edge-fits fits s.0 s.1 s.2 s.4.edge in
@@ -134,8 +134,8 @@ module _ (p : Problem) (g : Graph) where
   abbrev AtDegrees : Violation → Type 0
   AtDegrees = SomeBelow (length p.references) (λ r. SomeBelow (size_of g) (λ x. IsThis (Degree r x) (not (is_in_range p g r x))))
 
-  pub first_degree-IsFirst : IsFirst (Behind (3 ∷ [])) OutOfRange (first_degree p g)
-  first_degree-IsFirst = IsFirst-same (Behind (3 ∷ [])) AtDegrees OutOfRange (first_degree p g)
+  pub first_degree-IsFirst : IsFirst (HasPrefix (3 ∷ [])) OutOfRange (first_degree p g)
+  first_degree-IsFirst = IsFirst-same (HasPrefix (3 ∷ [])) AtDegrees OutOfRange (first_degree p g)
       (IsFirst-below (3 ∷ []) (length p.references) (λ r. first_below (size_of g) (λ x. when (not (is_in_range p g r x)) (Degree r x)))
       (λ r. SomeBelow (size_of g) (λ x. IsThis (Degree r x) (not (is_in_range p g r x))))
       (λ r k. IsFirst-below (3 ∷ r ∷ []) (size_of g) (λ x. when (not (is_in_range p g r x)) (Degree r x)) (λ x. IsThis (Degree r x) (not (is_in_range p g r x)))
@@ -163,22 +163,22 @@ module _ (p : Problem) (g : Graph) where
           (not_from_true below (is_below-from_IsBelow p.classes (class_of g x) (reference_at p.references r).source m.source)) m.outside)
 
   -- nodes that are held too often, or not at all
-  abbrev pub Misheld : Violation → Type 0
-  Misheld v = (z : ℕ) × (v ≡ Containers z) × IsMisheld p g z
+  abbrev pub WronglyContained : Violation → Type 0
+  WronglyContained v = (z : ℕ) × (v ≡ Containers z) × IsWronglyContained p g z
 
-  pub first_containers-IsFirst : IsFirst (Behind (4 ∷ [])) Misheld (first_containers p g)
-  first_containers-IsFirst = IsFirst-same (Behind (4 ∷ [])) (SomeBelow (size_of g) (λ z. IsThis (Containers z) (is_misheld p g z))) Misheld (first_containers p g)
-      (IsFirst-numbers 4 (size_of g) (λ z. Containers z) (λ z. is_misheld p g z) (λ z. refl))
+  pub first_containers-IsFirst : IsFirst (HasPrefix (4 ∷ [])) WronglyContained (first_containers p g)
+  first_containers-IsFirst = IsFirst-same (HasPrefix (4 ∷ [])) (SomeBelow (size_of g) (λ z. IsThis (Containers z) (is_wrongly_contained p g z))) WronglyContained (first_containers p g)
+      (IsFirst-numbers 4 (size_of g) (λ z. Containers z) (λ z. is_wrongly_contained p g z) (λ z. refl))
       (λ v s. (s.0, s.2.0, record { node = s.1; pairs = to s.0 s.2.1 }))
       (λ v s. (s.0, s.2.node, (s.1, from s.0 s.2.pairs)))
     where
-      to : (z : ℕ) → is_misheld p g z ≡ true → (2 ≤ container_count p g z) ⊎ ((container_count p g z ≡ 0) × (is_contained_class p (class_of g z) ≡ true))
+      to : (z : ℕ) → is_wrongly_contained p g z ≡ true → (2 ≤ container_count p g z) ⊎ ((container_count p g z ≡ 0) × (is_contained_class p (class_of g z) ≡ true))
       to z h = elim (or_cases (nat_le 2 (container_count p g z)) (container_count p g z == 0 && is_contained_class p (class_of g z)) h) [
         | inl e ↦ inl (leb-true 2 (container_count p g z) e)
         | inr e ↦ (let parts = and_parts (container_count p g z == 0) (is_contained_class p (class_of g z)) e in inr (eqb-true (container_count p g z) 0 parts.0, parts.1))
       ]
 
-      from : (z : ℕ) → (2 ≤ container_count p g z) ⊎ ((container_count p g z ≡ 0) × (is_contained_class p (class_of g z) ≡ true)) → is_misheld p g z ≡ true
+      from : (z : ℕ) → (2 ≤ container_count p g z) ⊎ ((container_count p g z ≡ 0) × (is_contained_class p (class_of g z) ≡ true)) → is_wrongly_contained p g z ≡ true
       from z h = elim h [
         | inl l ↦ or_left (nat_le 2 (container_count p g z)) (container_count p g z == 0 && is_contained_class p (class_of g z)) (le-leb 2 (container_count p g z) l)
         | inr e ↦ or_right (nat_le 2 (container_count p g z)) (container_count p g z == 0 && is_contained_class p (class_of g z))
@@ -189,16 +189,16 @@ module _ (p : Problem) (g : Graph) where
   abbrev pub OnCycle : Violation → Type 0
   OnCycle v = (x : ℕ) × (v ≡ Cycle x) × IsOnCycle p g x
 
-  pub first_cycle-IsFirst : IsFirst (Behind (5 ∷ [])) OnCycle (first_cycle p g)
+  pub first_cycle-IsFirst : IsFirst (HasPrefix (5 ∷ [])) OnCycle (first_cycle p g)
   first_cycle-IsFirst =
-      IsFirst-same (Behind (5 ∷ [])) (SomeBelow (size_of g) (λ x. IsThis (Cycle x) (walk_below (holds_in p g) (λ y. true) (size_of g) x x))) OnCycle (first_cycle p g)
-      (IsFirst-numbers 5 (size_of g) (λ x. Cycle x) (λ x. walk_below (holds_in p g) (λ y. true) (size_of g) x x) (λ x. refl))
-      (λ v s. (s.0, s.2.0, record { node = s.1; cycle = IsReachable-from_walk_below (holds_in p g) (λ y. true) (size_of g) s.0 s.0 s.2.1 }))
-      (λ v s. (s.0, s.2.node, (s.1, walk_below-from_IsWalk (holds_in p g) (λ y. true) (size_of g) s.0 s.2.cycle.0 s.0 s.2.cycle.1)))
+      IsFirst-same (HasPrefix (5 ∷ [])) (SomeBelow (size_of g) (λ x. IsThis (Cycle x) (walk_below (contains_in p g) (λ y. true) (size_of g) x x))) OnCycle (first_cycle p g)
+      (IsFirst-numbers 5 (size_of g) (λ x. Cycle x) (λ x. walk_below (contains_in p g) (λ y. true) (size_of g) x x) (λ x. refl))
+      (λ v s. (s.0, s.2.0, record { node = s.1; cycle = IsReachable-from_walk_below (contains_in p g) (λ y. true) (size_of g) s.0 s.0 s.2.1 }))
+      (λ v s. (s.0, s.2.node, (s.1, walk_below-from_IsWalk (contains_in p g) (λ y. true) (size_of g) s.0 s.2.cycle.0 s.0 s.2.cycle.1)))
 
   -- objects with a wrong number of nodes, or with a stranger
-  abbrev pub Unkept : Violation → Type 0
-  Unkept v = (o : ℕ) × (v ≡ Object o) × IsUnkept p g o
+  abbrev pub Unsatisfied : Violation → Type 0
+  Unsatisfied v = (o : ℕ) × (v ≡ Object o) × IsUnsatisfied p g o
 
   other-from_test : (name : ObjectName) (c : ℕ) → may_have_class name c ≡ false → (k : ℕ) × (name ≡ NewOf k) × (c ≢ k)
   other-from_test (Named name) c h = absurd (true≢false h)
@@ -223,22 +223,22 @@ module _ (p : Problem) (g : Graph) where
       (and_from (origin_of g s.x == o) (not (may_have_class (object_at p.objects o).name (class_of g s.x))) (eq-eqb (origin_of g s.x) o s.origin)
       (not_from_false (may_have_class (object_at p.objects o).name (class_of g s.x)) (test-from_other (object_at p.objects o).name (class_of g s.x) s.c s.new_of s.other)))
 
-  abbrev is_unkept : ℕ → Bool
-  is_unkept o = not (contains (admitted p o) (nodes_from g o)) || has_stranger p g o
+  abbrev is_unsatisfied : ℕ → Bool
+  is_unsatisfied o = not (contains (admitted p o) (nodes_from g o)) || has_stranger p g o
 
-  pub first_object-IsFirst : IsFirst (Behind (6 ∷ [])) Unkept (first_object p g)
-  first_object-IsFirst = IsFirst-same (Behind (6 ∷ [])) (SomeBelow (length p.objects) (λ o. IsThis (Object o) (is_unkept o))) Unkept (first_object p g)
-      (IsFirst-numbers 6 (length p.objects) (λ o. Object o) is_unkept (λ o. refl))
+  pub first_object-IsFirst : IsFirst (HasPrefix (6 ∷ [])) Unsatisfied (first_object p g)
+  first_object-IsFirst = IsFirst-same (HasPrefix (6 ∷ [])) (SomeBelow (length p.objects) (λ o. IsThis (Object o) (is_unsatisfied o))) Unsatisfied (first_object p g)
+      (IsFirst-numbers 6 (length p.objects) (λ o. Object o) is_unsatisfied (λ o. refl))
       (λ v s. (s.0, s.2.0, record { object = s.1; fails = to s.0 s.2.1 }))
       (λ v s. (s.0, s.2.object, (s.1, from s.0 s.2.fails)))
     where
-      to : (o : ℕ) → is_unkept o ≡ true → (contains (admitted p o) (nodes_from g o) ≡ false) ⊎ HasStranger p g o
+      to : (o : ℕ) → is_unsatisfied o ≡ true → (contains (admitted p o) (nodes_from g o) ≡ false) ⊎ HasStranger p g o
       to o h = elim (or_cases (not (contains (admitted p o) (nodes_from g o))) (has_stranger p g o) h) [
         | inl e ↦ inl (not-true (contains (admitted p o) (nodes_from g o)) e)
         | inr e ↦ inr (HasStranger-from_test o e)
       ]
 
-      from : (o : ℕ) → (contains (admitted p o) (nodes_from g o) ≡ false) ⊎ HasStranger p g o → is_unkept o ≡ true
+      from : (o : ℕ) → (contains (admitted p o) (nodes_from g o) ≡ false) ⊎ HasStranger p g o → is_unsatisfied o ≡ true
       from o h = elim h [
         | inl e ↦ or_left (not (contains (admitted p o) (nodes_from g o))) (has_stranger p g o) (not_from_false (contains (admitted p o) (nodes_from g o)) e)
         | inr s ↦ or_right (not (contains (admitted p o) (nodes_from g o))) (has_stranger p g o) (test-from_HasStranger o s)
@@ -252,13 +252,13 @@ module _ (p : Problem) (g : Graph) where
   abbrev pub is_on_scope : ℕ → Bool
   is_on_scope s = contains (scope_at p.scopes s).range (count_below (size_of g) (is_counted p g (scope_at p.scopes s)))
 
-  pub first_scope-IsFirst : IsFirst (Behind (8 ∷ [])) OffScope (first_scope p g)
-  first_scope-IsFirst = IsFirst-same (Behind (8 ∷ [])) (SomeBelow (length p.scopes) (λ s. IsThis (Scope s) (not (is_on_scope s)))) OffScope (first_scope p g)
+  pub first_scope-IsFirst : IsFirst (HasPrefix (8 ∷ [])) OffScope (first_scope p g)
+  first_scope-IsFirst = IsFirst-same (HasPrefix (8 ∷ [])) (SomeBelow (length p.scopes) (λ s. IsThis (Scope s) (not (is_on_scope s)))) OffScope (first_scope p g)
       (IsFirst-numbers 8 (length p.scopes) (λ s. Scope s) (λ s. not (is_on_scope s)) (λ s. refl))
       (λ v s. (s.0, s.2.0, record { scope = s.1; outside = not-true (is_on_scope s.0) s.2.1 }))
       (λ v s. (s.0, s.2.scope, (s.1, not_from_false (is_on_scope s.0) s.2.outside)))
 
-  -- assertions that aren't kept
+  -- assertions that aren't satisfied
   Breaks-from_test : (v : Truth) (b : Bool) (P : Type 0) → (b ≡ true → P) → (P → b ≡ true) → breaks v b ≡ true → Breaks v P
   Breaks-from_test True b P to from h = λ q. both_ways b (not-true b h) (from q)
   Breaks-from_test False b P to from h = to h
@@ -271,7 +271,7 @@ module _ (p : Problem) (g : Graph) where
   test-from_Breaks Unknown b P to from h = absurd h
   test-from_Breaks Error b P to from h = refl
 
-  -- whether what is asserted of a symbol at a tuple isn't kept
+  -- whether what is asserted of a symbol at a tuple isn't satisfied
   abbrev pub is_broken : Symbol → List ℕ → Bool
   is_broken symbol t = breaks (asserted p symbol (map (origin_of g) t)) (holds p g symbol t)
 
@@ -293,13 +293,13 @@ module _ (p : Problem) (g : Graph) where
   abbrev pub BrokenAt : Symbol → Violation → Type 0
   BrokenAt symbol v = (t : List ℕ) × (v ≡ Asserted symbol t) × IsBroken p g symbol t
 
-  pub first_broken-IsFirst : (symbol : Symbol) (front : List ℕ) → is_declared (length p.classes) (length p.references) (length p.predicates) symbol ≡ true
-      → ((t : List ℕ) → place_of (Asserted symbol t) ≡ front ++ t) → IsFirst (Behind front) (BrokenAt symbol) (first_broken p g symbol)
-  first_broken-IsFirst symbol front d place =
-      IsFirst-same (Behind front) (SomeTuple (size_of g) (arity_of p.predicates symbol) [] (λ t. IsThis (Asserted symbol t) (is_broken symbol t))) (BrokenAt symbol) (first_broken p g symbol)
-      (subst (λ at. IsFirst (Behind at) (SomeTuple (size_of g) (arity_of p.predicates symbol) [] (λ t. IsThis (Asserted symbol t) (is_broken symbol t))) (first_broken p g symbol)) (append-nil front)
-      (IsFirst-tuple front (size_of g) (λ t. when (is_broken symbol t) (Asserted symbol t)) (λ t. IsThis (Asserted symbol t) (is_broken symbol t))
-      (λ t. IsFirst-when (Asserted symbol t) (is_broken symbol t) (front ++ t) (place t)) (arity_of p.predicates symbol) []))
+  pub first_broken-IsFirst : (symbol : Symbol) (prefix : List ℕ) → is_declared (length p.classes) (length p.references) (length p.predicates) symbol ≡ true
+      → ((t : List ℕ) → sort_key (Asserted symbol t) ≡ prefix ++ t) → IsFirst (HasPrefix prefix) (BrokenAt symbol) (first_broken p g symbol)
+  first_broken-IsFirst symbol prefix d key =
+      IsFirst-same (HasPrefix prefix) (SomeTuple (size_of g) (arity_of p.predicates symbol) [] (λ t. IsThis (Asserted symbol t) (is_broken symbol t))) (BrokenAt symbol) (first_broken p g symbol)
+      (subst (λ at. IsFirst (HasPrefix at) (SomeTuple (size_of g) (arity_of p.predicates symbol) [] (λ t. IsThis (Asserted symbol t) (is_broken symbol t))) (first_broken p g symbol)) (append-nil prefix)
+      (IsFirst-tuple prefix (size_of g) (λ t. when (is_broken symbol t) (Asserted symbol t)) (λ t. IsThis (Asserted symbol t) (is_broken symbol t))
+      (λ t. IsFirst-when (Asserted symbol t) (is_broken symbol t) (prefix ++ t) (key t)) (arity_of p.predicates symbol) []))
       (λ v s. (s.rest, s.there.0, IsBroken-from_test symbol s.rest d s.arity s.below s.there.1))
       (λ v s. record { rest = s.0; arity = s.2.arity; below = s.2.nodes; there = (s.1, test-from_IsBroken symbol s.0 s.2) })
 
@@ -326,8 +326,8 @@ module _ (p : Problem) (g : Graph) where
     | inr s ↦ elim s [ inl s ↦ (Reference s.0, s.2.0, s.2.1, s.2.2) | inr s ↦ (Predicate s.0, s.2.0, s.2.1, s.2.2) ]
   ]
 
-  pub first_asserted-IsFirst : IsFirst (Behind (7 ∷ [])) Broken (first_asserted p g)
-  first_asserted-IsFirst = IsFirst-same (Behind (7 ∷ [])) BrokenByKind Broken (first_asserted p g)
+  pub first_asserted-IsFirst : IsFirst (HasPrefix (7 ∷ [])) Broken (first_asserted p g)
+  first_asserted-IsFirst = IsFirst-same (HasPrefix (7 ∷ [])) BrokenByKind Broken (first_asserted p g)
       (IsFirst-row (7 ∷ []) 0 BrokenByKind (first_asserted p g)
       (IsFirst-or (7 ∷ []) 0 (SomeBelow (length p.classes) (λ c. BrokenAt (OfClass c)))
       (λ v. SomeBelow (length p.references) (λ r. BrokenAt (Reference r)) v ⊎ SomeBelow (length p.predicates) (λ q. BrokenAt (Predicate q)) v)

@@ -11,5 +11,4 @@ pub mod Lines
 pub mod Literals
 pub mod Meaning
 pub mod ProblemNames
-pub mod SampleProblem
 pub mod Seen

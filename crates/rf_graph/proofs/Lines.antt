@@ -70,14 +70,14 @@ one_last (c ∷ a) (d ∷ b) r s nr ns e =
     let same : a ≡ b = ih.0 in
     (cc, ih.1)
 
--- what stands behind the word that begins a line
-behind_node : (xs ys : List ℕ) → codes "node " ++ xs ≡ codes "node " ++ ys → xs ≡ ys
-behind_node xs ys e = cc
+-- what stands after the word that begins a line
+after_node : (xs ys : List ℕ) → codes "node " ++ xs ≡ codes "node " ++ ys → xs ≡ ys
+after_node xs ys e = cc
 
-behind_edge : (xs ys : List ℕ) → codes "edge " ++ xs ≡ codes "edge " ++ ys → xs ≡ ys
-behind_edge xs ys e = cc
+after_edge : (xs ys : List ℕ) → codes "edge " ++ xs ≡ codes "edge " ++ ys → xs ≡ ys
+after_edge xs ys e = cc
 
--- the name of a class in front of a space, as it is split off
+-- the name of a class before a space, as it is split off
 pub IsWritten-class :
     (p : Problem) (c : ℕ) (bytes tail : List ℕ) → c < length p.classes → bytes ≡ class_name p c ++ 32 ∷ tail →
     IsWritten bytes (class_at p.classes c).name (32 ∷ tail)
@@ -87,7 +87,7 @@ IsWritten-class p c bytes tail h e =
 -- nodes that fit and have the same line are the same
 pub one_node : (p : Problem) (n m : Node) → FitsNode p n → FitsNode p m → node_line p n ≡ node_line p m → n ≡ m
 one_node p n m fn fm e =
-    let names = behind_node (class_name p n.class ++ 32 ∷ object_name p n.origin) (class_name p m.class ++ 32 ∷ object_name p m.origin) e in
+    let names = after_node (class_name p n.class ++ 32 ∷ object_name p n.origin) (class_name p m.class ++ 32 ∷ object_name p m.origin) e in
     let whole = ap (λ x. x ++ 32 ∷ object_name p n.origin) (sym (class_name-read p n.class no_class fn.class)) ∙ names ∙ ap (λ x. x ++ 32 ∷ object_name p m.origin) (class_name-read p m.class no_class fm.class) in
     let parts = one_written (class_at p.classes n.class).name (class_at p.classes m.class).name (32 ∷ object_name p n.origin) (32 ∷ object_name p m.origin)
     (CanBeQuoted-class p n.class fn.class) (CanBeQuoted-class p m.class fm.class) refl refl whole in
@@ -103,11 +103,11 @@ edge_line-words p e = ap (λ bytes. codes "edge " ++ bytes) (sym (append_assoc (
 
 -- the words of a line of an edge are the line's own
 pub edge_words :
-    (p : Problem) (e : Edge) (line behind front to_word name from_word : List ℕ) → line ≡ codes "edge " ++ behind → IsLastWord behind front to_word →
-    IsLastWord front name from_word → line ≡ edge_line p e → (name ≡ reference_name p e.reference) × (from_word ≡ decimal e.from) × (to_word ≡ decimal e.to)
-edge_words p e line behind front to_word name from_word begun last before spelled =
-    let words = behind_edge behind ((reference_name p e.reference ++ 32 ∷ decimal e.from) ++ 32 ∷ decimal e.to) (sym begun ∙ spelled ∙ edge_line-words p e) in
-    let outer = one_last front (reference_name p e.reference ++ 32 ∷ decimal e.from) to_word (decimal e.to) last.whole (NoSpace-decimal e.to) (sym last.joined ∙ words) in
+    (p : Problem) (e : Edge) (line tail prefix to_word name from_word : List ℕ) → line ≡ codes "edge " ++ tail → IsLastWord tail prefix to_word →
+    IsLastWord prefix name from_word → line ≡ edge_line p e → (name ≡ reference_name p e.reference) × (from_word ≡ decimal e.from) × (to_word ≡ decimal e.to)
+edge_words p e line tail prefix to_word name from_word begun last before spelled =
+    let words = after_edge tail ((reference_name p e.reference ++ 32 ∷ decimal e.from) ++ 32 ∷ decimal e.to) (sym begun ∙ spelled ∙ edge_line-words p e) in
+    let outer = one_last prefix (reference_name p e.reference ++ 32 ∷ decimal e.from) to_word (decimal e.to) last.whole (NoSpace-decimal e.to) (sym last.joined ∙ words) in
     let inner = one_last name (reference_name p e.reference) from_word (decimal e.from) before.whole (NoSpace-decimal e.from) (sym before.joined ∙ outer.0) in
     (inner.0, inner.1, outer.1)
 
@@ -171,17 +171,17 @@ IfNone-from P None h = h
 IfNone-from P (Some x) h = tt
 
 -- a line with too few words is none of an edge
-pub no_words : (p : Problem) (line behind : List ℕ) → line ≡ codes "edge " ++ behind → NoSpace behind → (e : Edge) → line ≡ edge_line p e → ⊥
-no_words p line behind begun whole e spelled =
-    let words = behind_edge behind ((reference_name p e.reference ++ 32 ∷ decimal e.from) ++ 32 ∷ decimal e.to) (sym begun ∙ spelled ∙ edge_line-words p e) in
+pub no_words : (p : Problem) (line tail : List ℕ) → line ≡ codes "edge " ++ tail → NoSpace tail → (e : Edge) → line ≡ edge_line p e → ⊥
+no_words p line tail begun whole e spelled =
+    let words = after_edge tail ((reference_name p e.reference ++ 32 ∷ decimal e.from) ++ 32 ∷ decimal e.to) (sym begun ∙ spelled ∙ edge_line-words p e) in
     NoSpace-space (reference_name p e.reference ++ 32 ∷ decimal e.from) (decimal e.to) (subst NoSpace words whole)
 
 pub one_word :
-    (p : Problem) (line behind front to_word : List ℕ) → line ≡ codes "edge " ++ behind → IsLastWord behind front to_word → NoSpace front →
+    (p : Problem) (line tail prefix to_word : List ℕ) → line ≡ codes "edge " ++ tail → IsLastWord tail prefix to_word → NoSpace prefix →
     (e : Edge) → line ≡ edge_line p e → ⊥
-one_word p line behind front to_word begun last whole e spelled =
-    let words = behind_edge behind ((reference_name p e.reference ++ 32 ∷ decimal e.from) ++ 32 ∷ decimal e.to) (sym begun ∙ spelled ∙ edge_line-words p e) in
-    let outer = one_last front (reference_name p e.reference ++ 32 ∷ decimal e.from) to_word (decimal e.to) last.whole (NoSpace-decimal e.to) (sym last.joined ∙ words) in
+one_word p line tail prefix to_word begun last whole e spelled =
+    let words = after_edge tail ((reference_name p e.reference ++ 32 ∷ decimal e.from) ++ 32 ∷ decimal e.to) (sym begun ∙ spelled ∙ edge_line-words p e) in
+    let outer = one_last prefix (reference_name p e.reference ++ 32 ∷ decimal e.from) to_word (decimal e.to) last.whole (NoSpace-decimal e.to) (sym last.joined ∙ words) in
     NoSpace-space (reference_name p e.reference) (decimal e.from) (subst NoSpace outer.0 whole)
 
 -- bytes that begin with the line of a node or an edge have it as their first line

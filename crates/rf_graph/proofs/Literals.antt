@@ -6,13 +6,13 @@ use Rattle.std.proofs.lemmas.List.{length-map}
 use Rattle.std.proofs.lemmas.Option.{same_Some}
 use Rattle.rf_finite.proofs.Range.{None-ne_Some}
 use Rattle.rf_problem.specs.Parts.{arity_of}
-use Rattle.rf_problem.specs.Reading.{Calls, Places, atom_true, is_entry, literal_true, literals_true, some_places}
+use Rattle.rf_problem.specs.Reading.{Calls, Assignment, atom_true, is_entry, literal_true, literals_true, some_assignment}
 use Rattle.rf_problem.specs.Valid.{fit_literals, fits_literal, has_steps, is_declared, may_stand, ranges_over}
 use Rattle.rf_problem.specs.declared.predicate.Literal.{Literal}
 use Rattle.rf_problem.specs.declared.predicate.Literal.TheVariants.{Call, Same, Differ}
 use Rattle.rf_problem.specs.declared.problem.Problem.{Problem}
 use Rattle.rf_problem.specs.declared.symbol.Symbol.{Symbol}
-use Rattle.rf_problem.proofs.Choices.{Picks, is_chosen, is_entry-Some, some_places-from_one, one-from_some_places, entry-from_inner, inner-from_entry}
+use Rattle.rf_problem.proofs.Choices.{Picks, is_chosen, is_entry-Some, some_assignment-from_one, one-from_some_assignment, entry-from_inner, inner-from_entry}
 use Rattle.rf_graph.specs.Evaluate.{graph_reading}
 use Rattle.rf_graph.specs.Graph.{size_of}
 use Rattle.rf_graph.specs.Holds.{AtomHolds, ChoosesInside, LiteralHolds, Meaning}
@@ -49,8 +49,8 @@ ranges_over-cases : (o : Option ℕ) (i : ℕ) → ranges_over o i true ≡ true
 ranges_over-cases None i h = inl refl
 ranges_over-cases (Some j) i h = inr h
 
--- places that agree where it matters have the same image
-map-same : (f h : Places) (test : ℕ → Bool) (args : List ℕ) → list_all test args ≡ true → ((v : ℕ) → test v ≡ true → f v ≡ h v) → map f args ≡ map h args
+-- assignments that agree where it matters have the same image
+map-same : (f h : Assignment) (test : ℕ → Bool) (args : List ℕ) → list_all test args ≡ true → ((v : ℕ) → test v ≡ true → f v ≡ h v) → map f args ≡ map h args
 map-same f h test [] all same = refl
 map-same f h test (v ∷ args) all same =
     let parts = and_parts (test v) (list_all test args) all in
@@ -110,34 +110,34 @@ module _ (p : Problem) where
       }
 
 module _ (p : Problem) (g : Graph) where
-  -- literals hold at places that agree on the variables that range over the clause
-  pub LiteralHolds-elsewhere : (says : Meaning) (variables : List (Option ℕ)) (i : ℕ) (places others : Places) (l : Literal)
+  -- literals hold at assignments that agree on the variables that range over the clause
+  pub LiteralHolds-elsewhere : (says : Meaning) (variables : List (Option ℕ)) (i : ℕ) (assignment others : Assignment) (l : Literal)
       → literal_fits p variables i l ≡ true
-      → ((v : ℕ) → IsFree variables v → places v ≡ others v)
-      → LiteralHolds p g says variables i places l → LiteralHolds p g says variables i others l
-  LiteralHolds-elsewhere says variables i places others (Call false closure symbol args) fits same h =
+      → ((v : ℕ) → IsFree variables v → assignment v ≡ others v)
+      → LiteralHolds p g says variables i assignment l → LiteralHolds p g says variables i others l
+  LiteralHolds-elsewhere says variables i assignment others (Call false closure symbol args) fits same h =
       let parts = FitsCall-from_literal_fits p variables i false closure symbol args fits in
       subst (λ (t : List ℕ). AtomHolds p g says closure symbol t)
-      (map-same places others (may_stand variables i false) args parts.stand (λ v s. same v (may_stand-free variables i v s))) h
-  LiteralHolds-elsewhere says variables i places others (Call true closure symbol args) fits same h = λ chosen choice holds.
+      (map-same assignment others (may_stand variables i false) args parts.stand (λ v s. same v (may_stand-free variables i v s))) h
+  LiteralHolds-elsewhere says variables i assignment others (Call true closure symbol args) fits same h = λ chosen choice holds.
       let parts = FitsCall-from_literal_fits p variables i true closure symbol args fits in
       h (moved chosen) (moves chosen choice) (subst (λ (t : List ℕ). AtomHolds p g says closure symbol t)
       (map-same chosen (moved chosen) (may_stand variables i true) args parts.stand (agrees chosen choice)) holds)
     where
-      moved : Places → Places
-      moved chosen v = if is_entry i (slice_index_or variables v None) then chosen v else places v
+      moved : Assignment → Assignment
+      moved chosen v = if is_entry i (slice_index_or variables v None) then chosen v else assignment v
 
       is_own : (o : Option ℕ) → o ≡ Some i → is_entry i o ≡ true
       is_own o e = subst (λ (o : Option ℕ). is_entry i o ≡ true) (sym e) (eq-eqb i i refl)
 
-      moves : (chosen : Places) → ChoosesInside variables i (size_of g) others chosen → ChoosesInside variables i (size_of g) places (moved chosen)
+      moves : (chosen : Assignment) → ChoosesInside variables i (size_of g) others chosen → ChoosesInside variables i (size_of g) assignment (moved chosen)
       moves chosen choice = record {
         inside = λ v e. (let own = is_own (slice_index_or variables v None) e in rw own (choice.inside v e));
         outside = λ v e. (let other : is_entry i (slice_index_or variables v None) ≡ false =
             false_from_ne_true (is_entry i (slice_index_or variables v None)) (λ own. e (is_entry-Some i (slice_index_or variables v None) own)) in rw other refl);
       }
 
-      agrees : (chosen : Places) → ChoosesInside variables i (size_of g) others chosen → (v : ℕ) → may_stand variables i true v ≡ true → chosen v ≡ moved chosen v
+      agrees : (chosen : Assignment) → ChoosesInside variables i (size_of g) others chosen → (v : ℕ) → may_stand variables i true v ≡ true → chosen v ≡ moved chosen v
       agrees chosen choice v s =
           let parts = may_stand-parts variables i v true s in
           elim (ranges_over-cases (slice_index_or variables v None) i parts.1) [
@@ -145,87 +145,87 @@ module _ (p : Problem) (g : Graph) where
                 rw none (choice.outside v (λ e. None-ne_Some (sym free ∙ e)) ∙ sym (same v (parts.0, free))))
             | inr own ↦ rw own refl
           ]
-  LiteralHolds-elsewhere says variables i places others (Same a b) fits same h =
+  LiteralHolds-elsewhere says variables i assignment others (Same a b) fits same h =
       let parts = and_parts (may_stand variables i false a) (may_stand variables i false b) fits in
       sym (same a (may_stand-free variables i a parts.0)) ∙ (h ∙ same b (may_stand-free variables i b parts.1))
-  LiteralHolds-elsewhere says variables i places others (Differ a b) fits same h =
+  LiteralHolds-elsewhere says variables i assignment others (Differ a b) fits same h =
       let parts = and_parts (may_stand variables i false a) (may_stand variables i false b) fits in
       λ e. h (same a (may_stand-free variables i a parts.0) ∙ (e ∙ sym (same b (may_stand-free variables i b parts.1))))
 
   module _ (calls : Calls) (says : Meaning) (agree : SaysSame p g calls says) where
-    -- what a negated call tests of the places chosen inside it
-    abbrev inner : Bool → Symbol → List ℕ → Places → Bool
+    -- what a negated call tests of the assignment chosen inside it
+    abbrev inner : Bool → Symbol → List ℕ → Assignment → Bool
     inner closure symbol args chosen = atom_true calls (graph_reading p g) (graph_reading p g) closure symbol (map chosen args)
 
-    -- to choose nodes inside a negation is to pick places for its own variables
-    ChoosesInside-from_Picks : (variables : List (Option ℕ)) (i : ℕ) (places chosen : Places)
-        → Picks (is_entry i) variables 0 (size_of g) places chosen → ChoosesInside variables i (size_of g) places chosen
-    ChoosesInside-from_Picks variables i places chosen c = record {
+    -- to choose nodes inside a negation is to pick an assignment of its own variables
+    ChoosesInside-from_Picks : (variables : List (Option ℕ)) (i : ℕ) (assignment chosen : Assignment)
+        → Picks (is_entry i) variables 0 (size_of g) assignment chosen → ChoosesInside variables i (size_of g) assignment chosen
+    ChoosesInside-from_Picks variables i assignment chosen c = record {
       inside = λ v e. c.inside v (inner-from_entry variables i v e);
       outside = λ v e. c.outside v (false_from_ne_true (is_chosen (is_entry i) variables 0 v) (λ h. e (entry-from_inner variables i v h)));
     }
 
-    Picks-from_ChoosesInside : (variables : List (Option ℕ)) (i : ℕ) (places chosen : Places)
-        → ChoosesInside variables i (size_of g) places chosen → Picks (is_entry i) variables 0 (size_of g) places chosen
-    Picks-from_ChoosesInside variables i places chosen c = record {
+    Picks-from_ChoosesInside : (variables : List (Option ℕ)) (i : ℕ) (assignment chosen : Assignment)
+        → ChoosesInside variables i (size_of g) assignment chosen → Picks (is_entry i) variables 0 (size_of g) assignment chosen
+    Picks-from_ChoosesInside variables i assignment chosen c = record {
       inside = λ v h. c.inside v (entry-from_inner variables i v h);
       outside = λ v h. c.outside v (λ e. both_ways (is_chosen (is_entry i) variables 0 v) h (inner-from_entry variables i v e));
     }
 
     -- the arguments of a call are as many as its symbol has
-    map-arity : (places : Places) (symbol : Symbol) (args : List ℕ) → length args ≡ arity_of p.predicates symbol → length (map places args) ≡ arity_of p.predicates symbol
-    map-arity places symbol args e = length-map args places ∙ e
+    map-arity : (assignment : Assignment) (symbol : Symbol) (args : List ℕ) → length args ≡ arity_of p.predicates symbol → length (map assignment args) ≡ arity_of p.predicates symbol
+    map-arity assignment symbol args e = length-map args assignment ∙ e
 
-    -- whether some places chosen inside it make it true
-    abbrev some_inner : List (Option ℕ) → ℕ → Places → Bool → Symbol → List ℕ → Bool
-    some_inner variables i places closure symbol args = some_places (graph_reading p g) (is_entry i) variables 0 places (inner closure symbol args)
+    -- whether some assignment chosen inside it makes it true
+    abbrev some_inner : List (Option ℕ) → ℕ → Assignment → Bool → Symbol → List ℕ → Bool
+    some_inner variables i assignment closure symbol args = some_assignment (graph_reading p g) (is_entry i) variables 0 assignment (inner closure symbol args)
 
     -- a literal holds where the test says so, and the test says so where it does
-    pub LiteralHolds-from_literal_true : (variables : List (Option ℕ)) (i : ℕ) (places : Places) (l : Literal)
+    pub LiteralHolds-from_literal_true : (variables : List (Option ℕ)) (i : ℕ) (assignment : Assignment) (l : Literal)
         → literal_fits p variables i l ≡ true
-        → literal_true calls (graph_reading p g) (graph_reading p g) variables i places l ≡ true → LiteralHolds p g says variables i places l
-    LiteralHolds-from_literal_true variables i places (Call false closure symbol args) fits h =
+        → literal_true calls (graph_reading p g) (graph_reading p g) variables i assignment l ≡ true → LiteralHolds p g says variables i assignment l
+    LiteralHolds-from_literal_true variables i assignment (Call false closure symbol args) fits h =
         let parts = FitsCall-from_literal_fits p variables i false closure symbol args fits in
-        AtomHolds-from_atom_true p g calls says agree closure symbol (map places args) (map-arity places symbol args parts.arity) parts.steps h
-    LiteralHolds-from_literal_true variables i places (Call true closure symbol args) fits h = λ chosen c holds.
+        AtomHolds-from_atom_true p g calls says agree closure symbol (map assignment args) (map-arity assignment symbol args parts.arity) parts.steps h
+    LiteralHolds-from_literal_true variables i assignment (Call true closure symbol args) fits h = λ chosen c holds.
         let parts = FitsCall-from_literal_fits p variables i true closure symbol args fits in
-        both_ways (some_inner variables i places closure symbol args)
-        (not-true (some_inner variables i places closure symbol args) h)
-        (some_places-from_one (is_entry i) (graph_reading p g) (λ x. refl) (inner closure symbol args) variables 0 places chosen
-        (Picks-from_ChoosesInside variables i places chosen c)
+        both_ways (some_inner variables i assignment closure symbol args)
+        (not-true (some_inner variables i assignment closure symbol args) h)
+        (some_assignment-from_one (is_entry i) (graph_reading p g) (λ x. refl) (inner closure symbol args) variables 0 assignment chosen
+        (Picks-from_ChoosesInside variables i assignment chosen c)
         (atom_true-from_AtomHolds p g calls says agree closure symbol (map chosen args) (map-arity chosen symbol args parts.arity) parts.steps holds))
-    LiteralHolds-from_literal_true variables i places (Same a b) fits h = eqb-true (places a) (places b) h
-    LiteralHolds-from_literal_true variables i places (Differ a b) fits h = eqb-false (places a) (places b) (not-true (places a == places b) h)
+    LiteralHolds-from_literal_true variables i assignment (Same a b) fits h = eqb-true (assignment a) (assignment b) h
+    LiteralHolds-from_literal_true variables i assignment (Differ a b) fits h = eqb-false (assignment a) (assignment b) (not-true (assignment a == assignment b) h)
 
-    pub literal_true-from_LiteralHolds : (variables : List (Option ℕ)) (i : ℕ) (places : Places) (l : Literal)
+    pub literal_true-from_LiteralHolds : (variables : List (Option ℕ)) (i : ℕ) (assignment : Assignment) (l : Literal)
         → literal_fits p variables i l ≡ true
-        → LiteralHolds p g says variables i places l → literal_true calls (graph_reading p g) (graph_reading p g) variables i places l ≡ true
-    literal_true-from_LiteralHolds variables i places (Call false closure symbol args) fits h =
+        → LiteralHolds p g says variables i assignment l → literal_true calls (graph_reading p g) (graph_reading p g) variables i assignment l ≡ true
+    literal_true-from_LiteralHolds variables i assignment (Call false closure symbol args) fits h =
         let parts = FitsCall-from_literal_fits p variables i false closure symbol args fits in
-        atom_true-from_AtomHolds p g calls says agree closure symbol (map places args) (map-arity places symbol args parts.arity) parts.steps h
-    literal_true-from_LiteralHolds variables i places (Call true closure symbol args) fits h =
+        atom_true-from_AtomHolds p g calls says agree closure symbol (map assignment args) (map-arity assignment symbol args parts.arity) parts.steps h
+    literal_true-from_LiteralHolds variables i assignment (Call true closure symbol args) fits h =
         let parts = FitsCall-from_literal_fits p variables i true closure symbol args fits in
-        not_from_false (some_inner variables i places closure symbol args)
-        (false_from_ne_true (some_inner variables i places closure symbol args) (λ some.
-        let one = one-from_some_places (is_entry i) (graph_reading p g) (λ x. refl) (inner closure symbol args) variables 0 places some in
-        h one.0 (ChoosesInside-from_Picks variables i places one.0 one.1)
+        not_from_false (some_inner variables i assignment closure symbol args)
+        (false_from_ne_true (some_inner variables i assignment closure symbol args) (λ some.
+        let one = one-from_some_assignment (is_entry i) (graph_reading p g) (λ x. refl) (inner closure symbol args) variables 0 assignment some in
+        h one.0 (ChoosesInside-from_Picks variables i assignment one.0 one.1)
         (AtomHolds-from_atom_true p g calls says agree closure symbol (map one.0 args) (map-arity one.0 symbol args parts.arity) parts.steps one.2)))
-    literal_true-from_LiteralHolds variables i places (Same a b) fits h = eq-eqb (places a) (places b) h
-    literal_true-from_LiteralHolds variables i places (Differ a b) fits h = not_from_false (places a == places b) (ne_eqb (places a) (places b) h)
+    literal_true-from_LiteralHolds variables i assignment (Same a b) fits h = eq-eqb (assignment a) (assignment b) h
+    literal_true-from_LiteralHolds variables i assignment (Differ a b) fits h = not_from_false (assignment a == assignment b) (ne_eqb (assignment a) (assignment b) h)
 
     -- the literals of a clause hold
-    pub literals-from_literals_true : (variables : List (Option ℕ)) (places : Places) (ls : List Literal) → literals_fit p variables 0 ls ≡ true
-        → literals_true calls (graph_reading p g) (graph_reading p g) variables 0 places ls ≡ true
-        → (i : ℕ) (l : Literal) → slice_get ls i ≡ Some l → LiteralHolds p g says variables i places l
-    literals-from_literals_true variables places ls fit h i l e =
-        LiteralHolds-from_literal_true variables i places l (each-from_literals_fit p variables ls fit i l e)
-        (each-from_all (λ i. literal_true calls (graph_reading p g) (graph_reading p g) variables i places)
-        (λ i. literals_true calls (graph_reading p g) (graph_reading p g) variables i places) (λ i l ls. refl) ls h i l e)
+    pub literals-from_literals_true : (variables : List (Option ℕ)) (assignment : Assignment) (ls : List Literal) → literals_fit p variables 0 ls ≡ true
+        → literals_true calls (graph_reading p g) (graph_reading p g) variables 0 assignment ls ≡ true
+        → (i : ℕ) (l : Literal) → slice_get ls i ≡ Some l → LiteralHolds p g says variables i assignment l
+    literals-from_literals_true variables assignment ls fit h i l e =
+        LiteralHolds-from_literal_true variables i assignment l (each-from_literals_fit p variables ls fit i l e)
+        (each-from_all (λ i. literal_true calls (graph_reading p g) (graph_reading p g) variables i assignment)
+        (λ i. literals_true calls (graph_reading p g) (graph_reading p g) variables i assignment) (λ i l ls. refl) ls h i l e)
 
-    pub literals_true-from_literals : (variables : List (Option ℕ)) (places : Places) (ls : List Literal) → literals_fit p variables 0 ls ≡ true
-        → ((i : ℕ) (l : Literal) → slice_get ls i ≡ Some l → LiteralHolds p g says variables i places l)
-        → literals_true calls (graph_reading p g) (graph_reading p g) variables 0 places ls ≡ true
-    literals_true-from_literals variables places ls fit h =
-        all-from_each (λ i. literal_true calls (graph_reading p g) (graph_reading p g) variables i places)
-        (λ i. literals_true calls (graph_reading p g) (graph_reading p g) variables i places) (λ i l ls. refl) (λ i. refl) ls
-        (λ i l e. literal_true-from_LiteralHolds variables i places l (each-from_literals_fit p variables ls fit i l e) (h i l e))
+    pub literals_true-from_literals : (variables : List (Option ℕ)) (assignment : Assignment) (ls : List Literal) → literals_fit p variables 0 ls ≡ true
+        → ((i : ℕ) (l : Literal) → slice_get ls i ≡ Some l → LiteralHolds p g says variables i assignment l)
+        → literals_true calls (graph_reading p g) (graph_reading p g) variables 0 assignment ls ≡ true
+    literals_true-from_literals variables assignment ls fit h =
+        all-from_each (λ i. literal_true calls (graph_reading p g) (graph_reading p g) variables i assignment)
+        (λ i. literals_true calls (graph_reading p g) (graph_reading p g) variables i assignment) (λ i l ls. refl) (λ i. refl) ls
+        (λ i l e. literal_true-from_LiteralHolds variables i assignment l (each-from_literals_fit p variables ls fit i l e) (h i l e))

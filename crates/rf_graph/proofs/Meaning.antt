@@ -5,13 +5,13 @@ use Rattle.std.proofs.lemmas.Bool.{cases_Bool, cases_lt, both_ways, false_from_n
 use Rattle.std.proofs.lemmas.List.Elements.{All-contains}
 use Rattle.std.specs.Cmp.{both_ways as same_tests}
 use Rattle.rf_problem.specs.Parts.{arity_of, no_predicate, predicate_at}
-use Rattle.rf_problem.specs.Reading.{Calls, Places, clause_true, literals_true, predicate_true}
+use Rattle.rf_problem.specs.Reading.{Calls, Assignment, clause_true, literals_true, predicate_true}
 use Rattle.rf_problem.specs.Valid.{FitsClause, is_free}
 use Rattle.rf_problem.specs.declared.predicate.Clause.{Clause}
 use Rattle.rf_problem.specs.declared.predicate.Predicate.{Predicate}
 use Rattle.rf_problem.specs.declared.problem.Problem.{Problem}
 use Rattle.rf_problem.specs.declared.symbol.Symbol.{Symbol}
-use Rattle.rf_problem.proofs.Choices.{Picks, is_chosen, some_places-from_one, one-from_some_places, free-from_outer, outer-from_free}
+use Rattle.rf_problem.proofs.Choices.{Picks, is_chosen, some_assignment-from_one, one-from_some_assignment, free-from_outer, outer-from_free}
 use Rattle.rf_problem.proofs.Depth.{call_rank, call_rank-falls, clauses-same, predicate_at-past, predicate_true-step}
 use Rattle.rf_graph.specs.Evaluate.{graph_reading, holds}
 use Rattle.rf_graph.specs.Graph.{size_of}
@@ -40,19 +40,19 @@ module _ (p : Problem) (g : Graph) where
   ]
 
   module _ (told : Calls) (says : Meaning) (agree : SaysSame p g told says) where
-    -- what a clause tests of the places for its variables
-    abbrev body : Clause → Places → Bool
-    body c places = literals_true told (graph_reading p g) (graph_reading p g) c.variables 0 places c.literals
+    -- what a clause tests of the assignment of its variables
+    abbrev body : Clause → Assignment → Bool
+    body c assignment = literals_true told (graph_reading p g) (graph_reading p g) c.variables 0 assignment c.literals
 
     -- a clause holds where the test says so, and the test says so where it does
     pub ClauseHolds-from_clause_true : (arity : ℕ) (t : List ℕ) (c : Clause) → FitsClause (length p.classes) (length p.references) p.predicates arity c
         → length t ≡ arity → clause_true told (graph_reading p g) (graph_reading p g) arity t c ≡ true → ClauseHolds p g says t c
     ClauseHolds-from_clause_true arity t c fit e h =
-        let one = one-from_some_places is_free (graph_reading p g) (λ x. refl) (body c) (drop arity c.variables) arity (slice_index t) h in
-        let picked : Places = one.0 in
+        let one = one-from_some_assignment is_free (graph_reading p g) (λ x. refl) (body c) (drop arity c.variables) arity (slice_index t) h in
+        let picked : Assignment = one.0 in
         let picks : Picks is_free (drop arity c.variables) arity (size_of g) (slice_index t) picked = one.1 in
         record {
-          places = picked;
+          assignment = picked;
           stand = record {
             parameters = λ v l. picks.outside v (false_from_ne_true (is_chosen is_free (drop arity c.variables) arity v) (λ k.
                 let outer = free-from_outer c.variables arity v k in let at = outer.0 in absurd (omega arith)));
@@ -64,12 +64,12 @@ module _ (p : Problem) (g : Graph) where
     pub clause_true-from_ClauseHolds : (arity : ℕ) (t : List ℕ) (c : Clause) → FitsClause (length p.classes) (length p.references) p.predicates arity c
         → length t ≡ arity → ClauseHolds p g says t c → clause_true told (graph_reading p g) (graph_reading p g) arity t c ≡ true
     clause_true-from_ClauseHolds arity t c fit e h =
-        some_places-from_one is_free (graph_reading p g) (λ x. refl) (body c) (drop arity c.variables) arity (slice_index t) picked picks
+        some_assignment-from_one is_free (graph_reading p g) (λ x. refl) (body c) (drop arity c.variables) arity (slice_index t) picked picks
         (literals_true-from_literals p g told says agree c.variables picked c.literals fit.literals
-        (λ i l at. LiteralHolds-elsewhere p g says c.variables i h.places picked l (each-from_literals_fit p c.variables c.literals fit.literals i l at) same (h.literals i l at)))
+        (λ i l at. LiteralHolds-elsewhere p g says c.variables i h.assignment picked l (each-from_literals_fit p c.variables c.literals fit.literals i l at) same (h.literals i l at)))
       where
-        picked : Places
-        picked u = if is_chosen is_free (drop arity c.variables) arity u then h.places u else slice_index t u
+        picked : Assignment
+        picked u = if is_chosen is_free (drop arity c.variables) arity u then h.assignment u else slice_index t u
 
         picks : Picks is_free (drop arity c.variables) arity (size_of g) (slice_index t) picked
         picks = record {
@@ -78,7 +78,7 @@ module _ (p : Problem) (g : Graph) where
           outside = λ u k. rw k refl;
         }
 
-        same : (v : ℕ) → IsFree c.variables v → h.places v ≡ picked v
+        same : (v : ℕ) → IsFree c.variables v → h.assignment v ≡ picked v
         same v free = elim (cases_Bool (is_chosen is_free (drop arity c.variables) arity v)) [
           | inl k ↦ rw k refl
           | inr k ↦ rw k (elim (cases_lt v arity) [

@@ -135,7 +135,7 @@ concrete_ascend n (c ∷ cs) i j before h = elim (cases_Bool c.is_abstract) [
     at_head n rest zero (suc j) before h above ascend = let more = above j (omega arith) in omega (arith, more)
     at_head n rest (suc i) (suc j) before h above ascend = ascend i j (omega arith) (omega arith)
 
--- an object that has no name of its own stands behind those that have one, at the place of its class
+-- an object that has no name of its own stands after those that have one, at the place of its class
 new_named : (name : ObjectName) (c : ℕ) → name ≡ NewOf c → is_named name ≡ false
 new_named name c e = ap is_named e
 

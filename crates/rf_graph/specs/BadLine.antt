@@ -8,14 +8,14 @@ use Rattle.rf_graph.specs.Graph.{Fits}
 
 -- the bytes have so many lines at least, and some graph document of the problem begins with them
 pub record Begins (p : Problem) (bytes : List ℕ) (lines : ℕ) : Type 0 where
-  pub front : List (List ℕ)
+  pub prefix : List (List ℕ)
   pub rest : List ℕ
   pub graph : Graph
   pub more : List (List ℕ)
   pub fits : Fits p graph
-  pub many : length front ≡ lines
-  pub begun : bytes ≡ joined_lines front ++ rest
-  pub continued : graph_lines p graph ≡ front ++ more
+  pub many : length prefix ≡ lines
+  pub begun : bytes ≡ joined_lines prefix ++ rest
+  pub continued : graph_lines p graph ≡ prefix ++ more
 
 -- the first line, counted from 1, of which no graph document of the problem begins with the lines so
 -- far; a line that is missing counts

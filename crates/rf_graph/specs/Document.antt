@@ -17,7 +17,7 @@ use Rattle.rf_graph.specs.Graph.{Fits}
 abbrev pub class_name : Problem → ℕ → List ℕ
 class_name p c = option_map_or (λ class. written_name class.name) (slice_get p.classes c) []
 
--- the name of a reference so written, behind that of the class that declares it
+-- the name of a reference so written, after that of the class that declares it
 abbrev pub reference_name : Problem → ℕ → List ℕ
 reference_name p r =
     option_map_or (λ reference. class_name p reference.source ++ (codes "::" ++ written_name reference.name)) (slice_get p.references r) []
@@ -57,7 +57,7 @@ abbrev pub graph_lines : Problem → Graph → List (List ℕ)
 graph_lines p g =
     codes "graph 1" ∷ (map (node_line p) g.nodes ++ (map (edge_line p) g.edges ++ codes "end" ∷ []))
 
--- the document of a graph: these lines, each ended by a line feed, and nothing behind them
+-- the document of a graph: these lines, each ended by a line feed, and nothing after them
 abbrev pub document : Problem → Graph → List ℕ
 document p g = joined_lines (graph_lines p g)
 

@@ -1,4 +1,4 @@
--- The first violation, computed: kind by kind, the least place.
+-- The first violation, computed: kind by kind, the least by its sort key.
 use Rattle.std.specs.Prelude.{ℕ, zero, suc, Bool, true, false, ◌==◌, ◌&&◌, ◌||◌, not, nat_le, Option, None, Some, List, [], ◌∷◌, ◌++◌, map, length}
 use Rattle.std.specs.Option.{option_or}
 use Rattle.rf_finite.specs.Range.{count_below, first_below, some_below}
@@ -17,7 +17,7 @@ use Rattle.rf_problem.specs.declared.symbol.Symbol.{Symbol}
 use Rattle.rf_problem.specs.declared.symbol.Symbol.TheVariants.{Class as OfClass, Reference, Predicate}
 use Rattle.rf_graph.specs.Evaluate.{holds}
 use Rattle.rf_graph.specs.Graph.{class_of, has_edge, origin_of, size_of}
-use Rattle.rf_graph.specs.Violations.{container_count, degree_of, holds_in, is_counted, nodes_from}
+use Rattle.rf_graph.specs.Violations.{container_count, degree_of, contains_in, is_counted, nodes_from}
 use Rattle.rf_graph.specs.declared.graph.Graph.{Graph}
 use Rattle.rf_graph.specs.declared.verdict.Violation.{Violation}
 use Rattle.rf_graph.specs.declared.verdict.Violation.TheVariants.{Class, Edge, Opposite, Degree, Containers, Cycle, Object, Asserted, Scope}
@@ -63,16 +63,16 @@ abbrev pub first_degree : Problem → Graph → Option Violation
 first_degree p g =
     first_below (length p.references) (λ r. first_below (size_of g) (λ x. when (not (is_in_range p g r x)) (Degree r x)))
 
--- whether node z is held more than once, or not at all though it has to be
-abbrev pub is_misheld : Problem → Graph → ℕ → Bool
-is_misheld p g z =
+-- whether node z is contained more than once, or not at all though it has to be
+abbrev pub is_wrongly_contained : Problem → Graph → ℕ → Bool
+is_wrongly_contained p g z =
     nat_le 2 (container_count p g z) || (container_count p g z == 0 && is_contained_class p (class_of g z))
 
 abbrev pub first_containers : Problem → Graph → Option Violation
-first_containers p g = first_below (size_of g) (λ z. when (is_misheld p g z) (Containers z))
+first_containers p g = first_below (size_of g) (λ z. when (is_wrongly_contained p g z) (Containers z))
 
 abbrev pub first_cycle : Problem → Graph → Option Violation
-first_cycle p g = first_below (size_of g) (λ x. when (walk_below (holds_in p g) (λ y. true) (size_of g) x x) (Cycle x))
+first_cycle p g = first_below (size_of g) (λ x. when (walk_below (contains_in p g) (λ y. true) (size_of g) x x) (Cycle x))
 
 -- whether a node of an object that is called so may have class c
 abbrev pub may_have_class : ObjectName → ℕ → Bool
@@ -87,19 +87,19 @@ abbrev pub first_object : Problem → Graph → Option Violation
 first_object p g = first_below (length p.objects) (λ o.
     when (not (contains (admitted p o) (nodes_from g o)) || has_stranger p g o) (Object o))
 
--- whether what is asserted isn't kept by what holds
+-- whether what is asserted isn't satisfied by what holds
 abbrev pub breaks : Truth → Bool → Bool
 breaks True b = not b
 breaks False b = b
 breaks Unknown b = false
 breaks Error b = true
 
--- the first of the tuples that go on with so many of n places where the test finds a violation
+-- the first of the tuples that go on with so many of n nodes where the test finds a violation
 abbrev pub first_tuple : ℕ → ℕ → List ℕ → (List ℕ → Option Violation) → Option Violation
 first_tuple n zero t test = test t
 first_tuple n (suc more) t test = first_below n (λ x. first_tuple n more (t ++ x ∷ []) test)
 
--- the first tuple of nodes at which what is asserted of a symbol isn't kept
+-- the first tuple of nodes at which what is asserted of a symbol isn't satisfied
 abbrev pub first_broken : Problem → Graph → Symbol → Option Violation
 first_broken p g symbol =
     first_tuple (size_of g) (arity_of p.predicates symbol) [] (λ t.

@@ -2,7 +2,7 @@
 use Rattle.std.specs.Prelude.{◌≡◌, ◌≢◌, ◌<◌, ◌≤◌, ◌↔◌, ℕ, Bool, true, false, Option, None, Some, List, [], ◌∷◌, map, length, Contains, slice_get, slice_index, slice_index_or}
 use Rattle.rf_problem.specs.Classes.{IsBelow}
 use Rattle.rf_problem.specs.Parts.{predicate_at}
-use Rattle.rf_problem.specs.Reading.{Places}
+use Rattle.rf_problem.specs.Reading.{Assignment}
 use Rattle.rf_problem.specs.declared.predicate.Clause.{Clause}
 use Rattle.rf_problem.specs.declared.predicate.Literal.{Literal}
 use Rattle.rf_problem.specs.declared.predicate.Literal.TheVariants.{Call, Same, Differ}
@@ -39,29 +39,29 @@ AtomHolds p g says true symbol _ = ⊥
 
 -- the chosen nodes are those of the clause but for the variables that range inside the negation of literal i,
 -- for which any nodes are chosen
-pub record ChoosesInside (variables : List (Option ℕ)) (i nodes : ℕ) (places chosen : Places) : Type 0 where
+pub record ChoosesInside (variables : List (Option ℕ)) (i nodes : ℕ) (assignment chosen : Assignment) : Type 0 where
   pub inside : (v : ℕ) → slice_index_or variables v None ≡ Some i → chosen v < nodes
-  pub outside : (v : ℕ) → (slice_index_or variables v None ≡ Some i → ⊥) → chosen v ≡ places v
+  pub outside : (v : ℕ) → (slice_index_or variables v None ≡ Some i → ⊥) → chosen v ≡ assignment v
 
 -- literal i of a clause with these variables holds at these nodes; a variable that ranges inside its negation
 -- does so over all nodes
-abbrev pub LiteralHolds : Problem → Graph → Meaning → List (Option ℕ) → ℕ → Places → Literal → Type 0
-LiteralHolds p g says variables i places (Call false closure symbol args) = AtomHolds p g says closure symbol (map places args)
-LiteralHolds p g says variables i places (Call true closure symbol args) =
-    (chosen : Places) → ChoosesInside variables i (size_of g) places chosen → AtomHolds p g says closure symbol (map chosen args) → ⊥
-LiteralHolds p g says variables i places (Same a b) = places a ≡ places b
-LiteralHolds p g says variables i places (Differ a b) = places a ≢ places b
+abbrev pub LiteralHolds : Problem → Graph → Meaning → List (Option ℕ) → ℕ → Assignment → Literal → Type 0
+LiteralHolds p g says variables i assignment (Call false closure symbol args) = AtomHolds p g says closure symbol (map assignment args)
+LiteralHolds p g says variables i assignment (Call true closure symbol args) =
+    (chosen : Assignment) → ChoosesInside variables i (size_of g) assignment chosen → AtomHolds p g says closure symbol (map chosen args) → ⊥
+LiteralHolds p g says variables i assignment (Same a b) = assignment a ≡ assignment b
+LiteralHolds p g says variables i assignment (Differ a b) = assignment a ≢ assignment b
 
 -- the parameters stand for the nodes of the tuple, and each other variable that ranges over the clause for some node
-pub record StandFor (variables : List (Option ℕ)) (nodes : ℕ) (t : List ℕ) (places : Places) : Type 0 where
-  pub parameters : (v : ℕ) → v < length t → places v ≡ slice_index t v
-  pub others : (v : ℕ) → length t ≤ v → v < length variables → slice_index_or variables v None ≡ None → places v < nodes
+pub record StandFor (variables : List (Option ℕ)) (nodes : ℕ) (t : List ℕ) (assignment : Assignment) : Type 0 where
+  pub parameters : (v : ℕ) → v < length t → assignment v ≡ slice_index t v
+  pub others : (v : ℕ) → length t ≤ v → v < length variables → slice_index_or variables v None ≡ None → assignment v < nodes
 
 -- a clause holds at a tuple: some nodes for its variables make every literal hold
 pub record ClauseHolds (p : Problem) (g : Graph) (says : Meaning) (t : List ℕ) (c : Clause) : Type 0 where
-  pub places : Places
-  pub stand : StandFor c.variables (size_of g) t places
-  pub literals : (i : ℕ) (l : Literal) → slice_get c.literals i ≡ Some l → LiteralHolds p g says c.variables i places l
+  pub assignment : Assignment
+  pub stand : StandFor c.variables (size_of g) t assignment
+  pub literals : (i : ℕ) (l : Literal) → slice_get c.literals i ≡ Some l → LiteralHolds p g says c.variables i assignment l
 
 -- a predicate holds at a tuple: some clause of it does
 abbrev pub PredicateHolds : Problem → Graph → Meaning → ℕ → List ℕ → Type 0

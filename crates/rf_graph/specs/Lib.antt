@@ -1,9 +1,11 @@
-pub mod BadLine
-pub mod Document
-pub mod Evaluate
-pub mod First
+-- what public contracts cite, in the order of reading
 pub mod Graph
 pub mod Holds
-pub mod Laws
-pub mod Names
 pub mod Violations
+pub mod Document
+pub mod BadLine
+pub mod Evaluate
+pub mod First
+pub mod Laws
+-- what only the contracts of private functions cite, and lemmas
+pub mod Names

@@ -1,3 +1,4 @@
+-- Private: no public contract cites this.
 -- The classes, references and objects of a problem, found by their names.
 use Rattle.std.specs.Prelude.{◌≡◌, ◌≢◌, ◌<◌, ℕ, List, [], ◌∷◌, ◌++◌, length, All, Option, None, Some, slice_index_or}
 use Rattle.std.specs.BTreeMap.{BTreeMap, get_by}
@@ -9,11 +10,11 @@ use denote.Ref.{Bor}
 abbrev pub IsCalled : List (List ℕ) → ℕ → List ℕ → Type 0
 IsCalled names k name = (k < length names) × (slice_index_or names k [] ≡ name)
 
--- the number that is kept under a name
+-- the number that is stored under a name
 abbrev pub number_of : BTreeMap (Bor (List ℕ)) ℕ → List ℕ → Option ℕ
 number_of numbers name = get_by (λ key. slice_cmp nat_cmp name key.now) numbers
 
--- kept are the numbers of the first names, so many, each under its name
+-- the numbers of the first names, so many, are stored, each under its name
 pub record IsIndex (names : List (List ℕ)) (many : ℕ) (numbers : BTreeMap (Bor (List ℕ)) ℕ) : Type 0 where
   pub right : (name : List ℕ) (k : ℕ) → number_of numbers name ≡ Some k → (k < many) × (slice_index_or names k [] ≡ name)
   pub full : (k : ℕ) → k < many → number_of numbers (slice_index_or names k []) ≡ None → ⊥
@@ -27,11 +28,11 @@ pub record AreNames (many : ℕ) (name_of : ℕ → List ℕ) (names : List (Lis
 abbrev pub IsNameOf : ℕ → (ℕ → List ℕ) → ℕ → List ℕ → Type 0
 IsNameOf many name_of k name = (k < many) × (name_of k ≡ name)
 
--- no space stands in the bytes
+-- the bytes have no space
 abbrev pub NoSpace : List ℕ → Type 0
 NoSpace bytes = All (λ b. b ≢ 32) bytes
 
--- the bytes in front of the last space, and those behind it
-pub record IsLastWord (bytes front word : List ℕ) : Type 0 where
-  pub joined : bytes ≡ front ++ 32 ∷ word
+-- the bytes before the last space, and those after it
+pub record IsLastWord (bytes prefix word : List ℕ) : Type 0 where
+  pub joined : bytes ≡ prefix ++ 32 ∷ word
   pub whole : NoSpace word

@@ -66,18 +66,18 @@ container_count p g z =
     sum_below (length p.references) (is_containing p) (λ r. count_below (size_of g) (λ x. has_edge g r x z))
 
 -- node z is in more than one such pair, or in none though its class is below the target of some reference that contains
-pub record IsMisheld (p : Problem) (g : Graph) (z : ℕ) : Type 0 where
+pub record IsWronglyContained (p : Problem) (g : Graph) (z : ℕ) : Type 0 where
   pub node : z < size_of g
   pub pairs : (2 ≤ container_count p g z) ⊎ ((container_count p g z ≡ 0) × (is_contained_class p (class_of g z) ≡ true))
 
 -- whether an edge of a reference that contains leads from x to y
-abbrev pub holds_in : Problem → Graph → ℕ → ℕ → Bool
-holds_in p g x y = list_any (λ e. is_containing p e.reference && (e.from == x && e.to == y)) g.edges
+abbrev pub contains_in : Problem → Graph → ℕ → ℕ → Bool
+contains_in p g x y = list_any (λ e. is_containing p e.reference && (e.from == x && e.to == y)) g.edges
 
 -- node x lies on a cycle of such edges
 pub record IsOnCycle (p : Problem) (g : Graph) (x : ℕ) : Type 0 where
   pub node : x < size_of g
-  pub cycle : IsReachable (holds_in p g) (λ y. true) (size_of g) x x
+  pub cycle : IsReachable (contains_in p g) (λ y. true) (size_of g) x x
 
 -- how many nodes come from object o
 abbrev pub nodes_from : Graph → ℕ → ℕ
@@ -93,18 +93,18 @@ pub record HasStranger (p : Problem) (g : Graph) (o : ℕ) : Type 0 where
   pub other : class_of g x ≢ c
 
 -- object o has a number of nodes that it doesn't admit, or a node of a class that it may not have
-pub record IsUnkept (p : Problem) (g : Graph) (o : ℕ) : Type 0 where
+pub record IsUnsatisfied (p : Problem) (g : Graph) (o : ℕ) : Type 0 where
   pub object : o < length p.objects
   pub fails : (contains (admitted p o) (nodes_from g o) ≡ false) ⊎ HasStranger p g o
 
--- what is asserted isn't kept: true and it fails, false and it holds, or error
+-- what is asserted isn't satisfied: true and it fails, false and it holds, or error
 abbrev pub Breaks : Truth → Type 0 → Type 0
 Breaks True P = P → ⊥
 Breaks False P = P
 Breaks Unknown P = ⊥
 Breaks Error P = Unit {0}
 
--- at a tuple of nodes what is asserted of a symbol isn't kept
+-- at a tuple of nodes what is asserted of a symbol isn't satisfied
 pub record IsBroken (p : Problem) (g : Graph) (symbol : Symbol) (t : List ℕ) : Type 0 where
   pub declared : is_declared (length p.classes) (length p.references) (length p.predicates) symbol ≡ true
   pub arity : length t ≡ arity_of p.predicates symbol
@@ -132,35 +132,35 @@ IsViolation p g (Class x) = IsOfAbstractClass p g x
 IsViolation p g (Edge r x y) = IsMisplaced p g r x y
 IsViolation p g (Opposite r x y) = IsOneWay p g r x y
 IsViolation p g (Degree r x) = IsOutOfRange p g r x
-IsViolation p g (Containers z) = IsMisheld p g z
+IsViolation p g (Containers z) = IsWronglyContained p g z
 IsViolation p g (Cycle x) = IsOnCycle p g x
-IsViolation p g (Object o) = IsUnkept p g o
+IsViolation p g (Object o) = IsUnsatisfied p g o
 IsViolation p g (Asserted symbol t) = IsBroken p g symbol t
 IsViolation p g (Scope s) = IsOffScope p g s
 
--- the place of a symbol among all: classes, then references, then predicates
-abbrev pub symbol_place : Symbol → List ℕ → List ℕ
-symbol_place (OfClass c) t = 0 ∷ c ∷ t
-symbol_place (Reference r) t = 1 ∷ r ∷ t
-symbol_place (Predicate q) t = 2 ∷ q ∷ t
-symbol_place Exists t = 3 ∷ t
-symbol_place Equals t = 4 ∷ t
+-- the sort key of a symbol at a tuple: classes, then references, then predicates
+abbrev pub symbol_key : Symbol → List ℕ → List ℕ
+symbol_key (OfClass c) t = 0 ∷ c ∷ t
+symbol_key (Reference r) t = 1 ∷ r ∷ t
+symbol_key (Predicate q) t = 2 ∷ q ∷ t
+symbol_key Exists t = 3 ∷ t
+symbol_key Equals t = 4 ∷ t
 
--- the place of a violation among all: its kind, and then its numbers
-abbrev pub place_of : Violation → List ℕ
-place_of (Class x) = 0 ∷ x ∷ []
-place_of (Edge r x y) = 1 ∷ r ∷ x ∷ y ∷ []
-place_of (Opposite r x y) = 2 ∷ r ∷ x ∷ y ∷ []
-place_of (Degree r x) = 3 ∷ r ∷ x ∷ []
-place_of (Containers z) = 4 ∷ z ∷ []
-place_of (Cycle x) = 5 ∷ x ∷ []
-place_of (Object o) = 6 ∷ o ∷ []
-place_of (Asserted symbol t) = 7 ∷ symbol_place symbol t
-place_of (Scope s) = 8 ∷ s ∷ []
+-- the sort key of a violation: its kind, and then its numbers
+abbrev pub sort_key : Violation → List ℕ
+sort_key (Class x) = 0 ∷ x ∷ []
+sort_key (Edge r x y) = 1 ∷ r ∷ x ∷ y ∷ []
+sort_key (Opposite r x y) = 2 ∷ r ∷ x ∷ y ∷ []
+sort_key (Degree r x) = 3 ∷ r ∷ x ∷ []
+sort_key (Containers z) = 4 ∷ z ∷ []
+sort_key (Cycle x) = 5 ∷ x ∷ []
+sort_key (Object o) = 6 ∷ o ∷ []
+sort_key (Asserted symbol t) = 7 ∷ symbol_key symbol t
+sort_key (Scope s) = 8 ∷ s ∷ []
 
--- violation v stands before violation w, place by place
+-- violation v stands before violation w, by their sort keys, number by number
 abbrev pub IsBefore : Violation → Violation → Type 0
-IsBefore v w = slice_cmp nat_cmp (place_of v) (place_of w) ≡ Less
+IsBefore v w = slice_cmp nat_cmp (sort_key v) (sort_key w) ≡ Less
 
 -- the kinds that speak of nodes and edges alone
 abbrev pub is_of_shape : Violation → Bool
@@ -176,7 +176,7 @@ Shaped p g = (v : Violation) → is_of_shape v ≡ true → IsViolation p g v �
 -- the graph satisfies the problem: it fits it, and no violation is there
 pub record Sat (p : Problem) (g : Graph) : Type 0 where
   pub fits : Fits p g
-  pub kept : (v : Violation) → IsViolation p g v → ⊥
+  pub no_violation : (v : Violation) → IsViolation p g v → ⊥
 
 -- the violation is there, and none before it is
 pub record FirstViolation (p : Problem) (g : Graph) (v : Violation) : Type 0 where

@@ -15,6 +15,3 @@ pub use laws::{first_violation_law, holds_law};
 pub use print::{print_graph, push_class, push_object, push_reference, push_symbol};
 pub use read::{GraphError, read_graph};
 pub use verdict::{Verdict, Violation};
-
-#[cfg(test)]
-mod tests;

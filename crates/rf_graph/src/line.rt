@@ -9,31 +9,31 @@ use crate::names::Numbers;
 use crate::{Edge, Node};
 use rf_text::{read_number, split_written};
 
-// What stands behind the word that begins the line of a node.
-fn behind_node(line: &[u8]) -> Option<&[u8]>
+// What stands after the word that begins the line of a node.
+fn after_node(line: &[u8]) -> Option<&[u8]>
     ensures found { IfSome result (λ rest. line.now ≡ codes "node " ++ rest.now) }
     ensures none { IfNone result ((rest : List ℕ) → line.now ≡ codes "node " ++ rest → ⊥) }
 {
     line.strip_prefix(b"node ".as_slice())
 }
 
-// What stands behind the word that begins the line of an edge.
-fn behind_edge(line: &[u8]) -> Option<&[u8]>
+// What stands after the word that begins the line of an edge.
+fn after_edge(line: &[u8]) -> Option<&[u8]>
     ensures found { IfSome result (λ rest. line.now ≡ codes "edge " ++ rest.now) }
     ensures none { IfNone result ((rest : List ℕ) → line.now ≡ codes "edge " ++ rest → ⊥) }
 {
     line.strip_prefix(b"edge ".as_slice())
 }
 
-// What stands behind a space.
-fn behind_space(bytes: &[u8]) -> Option<&[u8]>
+// What stands after a space.
+fn after_space(bytes: &[u8]) -> Option<&[u8]>
     ensures found { IfSome result (λ rest. bytes.now ≡ codes " " ++ rest.now) }
     ensures none { IfNone result ((rest : List ℕ) → bytes.now ≡ codes " " ++ rest → ⊥) }
 {
     bytes.strip_prefix(b" ".as_slice())
 }
 
-// What stands in front of the last space, and what behind it.
+// What stands before the last space, and what after it.
 fn last_word(bytes: &[u8]) -> Option<(&[u8], &[u8])>
     ensures found { IfSome result (λ parts. IsLastWord bytes.now parts.0.now parts.1.now) }
     ensures none { IfNone result (NoSpace bytes.now) }
@@ -43,7 +43,7 @@ fn last_word(bytes: &[u8]) -> Option<(&[u8], &[u8])>
 }
 
 // The number of a node, of which there are so many, that is written so.
-fn read_place(nodes: u64, word: &[u8]) -> Option<u64>
+fn read_node_number(nodes: u64, word: &[u8]) -> Option<u64>
     ensures found { IfSome result (λ n. (n < nodes) × (word.now ≡ decimal n)) }
     ensures none { IfNone result ((n : ℕ) → n < nodes → word.now ≡ decimal n → ⊥) }
 {
@@ -59,9 +59,9 @@ pub fn read_node(numbers: &Numbers<'_>, line: &[u8]) -> Option<Node>
     ensures spelled { IfSome result (λ node. line.now ≡ node_line numbers.now.problem.now node) }
     ensures none { IfNone result ((node : NodeValue) → FitsNode numbers.now.problem.now node → line.now ≡ node_line numbers.now.problem.now node → ⊥) }
 {
-    let names = behind_node(line)?;
-    let (class_name, behind) = split_written(names)?;
-    let object_name = behind_space(behind)?;
+    let names = after_node(line)?;
+    let (class_name, tail) = split_written(names)?;
+    let object_name = after_space(tail)?;
     let class = numbers.find_class(class_name)?;
     let origin = numbers.find_object(object_name)?;
     Some(Node { class, origin })
@@ -74,12 +74,12 @@ pub fn read_edge(numbers: &Numbers<'_>, nodes: u64, line: &[u8]) -> Option<Edge>
     ensures spelled { IfSome result (λ edge. line.now ≡ edge_line numbers.now.problem.now edge) }
     ensures none { IfNone result ((edge : EdgeValue) → FitsEdge numbers.now.problem.now nodes edge → line.now ≡ edge_line numbers.now.problem.now edge → ⊥) }
 {
-    let behind = behind_edge(line)?;
-    let (front, to_word) = last_word(behind)?;
-    let (reference_name, from_word) = last_word(front)?;
+    let tail = after_edge(line)?;
+    let (prefix, to_word) = last_word(tail)?;
+    let (reference_name, from_word) = last_word(prefix)?;
     let reference = numbers.find_reference(reference_name)?;
-    let from = read_place(nodes, from_word)?;
-    let to = read_place(nodes, to_word)?;
+    let from = read_node_number(nodes, from_word)?;
+    let to = read_node_number(nodes, to_word)?;
     Some(Edge {
         reference,
         from,

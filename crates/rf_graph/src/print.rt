@@ -22,7 +22,7 @@ pub fn push_class(
     push_name(alloc, out, &problem.classes[class as usize].name)
 }
 
-/// Appends the name of a reference as documents write it, behind that of the class that declares it.
+/// Appends the name of a reference as documents write it, after that of the class that declares it.
 pub fn push_reference(
     alloc: Global,
     out: &mut Text,

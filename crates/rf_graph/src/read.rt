@@ -44,23 +44,23 @@ impl<T: Drop> From<AllocFailed<T>> for GraphError {
     }
 }
 
-// What stands behind the first line, where that is the head of a graph document.
-fn behind_head(bytes: &[u8]) -> Option<&[u8]>
+// What stands after the first line, where that is the head of a graph document.
+fn after_head(bytes: &[u8]) -> Option<&[u8]>
     ensures found { IfSome result (λ rest. bytes.now ≡ codes "graph 1\n" ++ rest.now) }
     ensures none { IfNone result ((rest : List ℕ) → bytes.now ≡ codes "graph 1\n" ++ rest → ⊥) }
 {
     bytes.strip_prefix(b"graph 1\n".as_slice())
 }
 
-// What stands behind the first line, where that is the end of a graph document.
-fn behind_end(bytes: &[u8]) -> Option<&[u8]>
+// What stands after the first line, where that is the end of a graph document.
+fn after_end(bytes: &[u8]) -> Option<&[u8]>
     ensures found { IfSome result (λ rest. bytes.now ≡ codes "end\n" ++ rest.now) }
     ensures none { IfNone result ((rest : List ℕ) → bytes.now ≡ codes "end\n" ++ rest → ⊥) }
 {
     bytes.strip_prefix(b"end\n".as_slice())
 }
 
-// The node whose line the bytes begin with, and what stands behind that line.
+// The node whose line the bytes begin with, and what stands after that line.
 fn first_node<'b>(numbers: &Numbers<'_>, bytes: &'b [u8]) -> Option<(Node, &'b [u8])>
     ensures fits { IfSome result (λ found. FitsNode numbers.now.problem.now found.0) }
     ensures joined { IfSome result (λ found. bytes.now ≡ node_line numbers.now.problem.now found.0 ++ 10 ∷ found.1.now) }
@@ -71,7 +71,7 @@ fn first_node<'b>(numbers: &Numbers<'_>, bytes: &'b [u8]) -> Option<(Node, &'b [
     Some((node, after))
 }
 
-// The edge whose line the bytes begin with, and what stands behind that line.
+// The edge whose line the bytes begin with, and what stands after that line.
 fn first_edge<'b>(numbers: &Numbers<'_>, nodes: u64, bytes: &'b [u8]) -> Option<(Edge, &'b [u8])>
     ensures fits { IfSome result (λ found. FitsEdge numbers.now.problem.now nodes found.0) }
     ensures joined { IfSome result (λ found. bytes.now ≡ edge_line numbers.now.problem.now found.0 ++ 10 ∷ found.1.now) }
@@ -82,7 +82,7 @@ fn first_edge<'b>(numbers: &Numbers<'_>, nodes: u64, bytes: &'b [u8]) -> Option<
     Some((edge, after))
 }
 
-// The nodes whose lines the bytes begin with, as many as there are, and what stands behind them.
+// The nodes whose lines the bytes begin with, as many as there are, and what stands after them.
 fn read_nodes<'b>(
     alloc: Global,
     numbers: &Numbers<'_>,
@@ -103,7 +103,7 @@ fn read_nodes<'b>(
 }
 
 // The edges, no two the same, whose lines the bytes begin with, as many as there are, and what
-// stands behind them.
+// stands after them.
 fn read_edges<'b>(
     alloc: Global,
     numbers: &Numbers<'_>,
@@ -137,13 +137,13 @@ fn read_document(alloc: Global, problem: &Problem, bytes: &[u8]) -> Result<Graph
 {
     let names = Names::new(alloc, problem)?;
     let numbers = Numbers::new(alloc, &names)?;
-    let Some(behind) = behind_head(bytes) else {
+    let Some(tail) = after_head(bytes) else {
         return Err(GraphError::BadLine(1));
     };
-    let (nodes, behind_nodes) = read_nodes(alloc, &numbers, behind)?;
-    let (edges, rest) = read_edges(alloc, &numbers, nodes.len() as u64, behind_nodes)?;
+    let (nodes, after_nodes) = read_nodes(alloc, &numbers, tail)?;
+    let (edges, rest) = read_edges(alloc, &numbers, nodes.len() as u64, after_nodes)?;
     let here = (nodes.len() + edges.len()) as u64 + 2;
-    let Some(after) = behind_end(rest) else {
+    let Some(after) = after_end(rest) else {
         return Err(GraphError::BadLine(here));
     };
     if !after.is_empty() {

@@ -20,7 +20,7 @@ pub enum Violation {
     /// The object of this number has a number of nodes that it doesn't admit, or a node of a class
     /// that it may not have.
     Object(u64),
-    /// At these nodes what is asserted of the symbol isn't kept.
+    /// At these nodes what is asserted of the symbol isn't satisfied.
     Asserted(Symbol, Tuple),
     /// The number of nodes that the scope of this number counts is outside its range.
     Scope(u32),

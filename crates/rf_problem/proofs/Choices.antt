@@ -1,10 +1,10 @@
--- Places chosen for variables.
+-- Elements chosen for variables.
 use Rattle.std.proofs.Common.{◌≡◌, ℕ, zero, suc, ◌+◌, ◌-◌, ◌≤◌, ◌<◌, Bool, true, false, ◌&&◌, ◌||◌, ◌==◌, Option, Some, None, List, [], ◌∷◌, length, drop, slice_index_or, refl, sym, ap, ◌∙◌, subst, inl, inr, arith, true≢false, get_or-drop, length-drop, suc-add, add-suc}
 use Rattle.std.proofs.lemmas.Bool.{cases_Bool, cases_lt, and_parts, and_from, and_left, and_right, or_cases, or_parts, or_left, or_right, or_from, eqb-true, eq-eqb, ne_eqb}
 use Rattle.std.proofs.lemmas.List.{get_or_past}
 use Rattle.rf_finite.specs.Range.{some_below}
 use Rattle.rf_finite.proofs.Range.{None-ne_Some, one-from_some_below, some_below-from_one}
-use Rattle.rf_problem.specs.Reading.{Places, Reading, is_entry, some_places, with_place}
+use Rattle.rf_problem.specs.Reading.{Assignment, Reading, is_entry, some_assignment, assign}
 use Rattle.rf_problem.specs.Valid.{is_free}
 
 module _ (chosen : Option ℕ → Bool) where
@@ -36,21 +36,21 @@ module _ (chosen : Option ℕ → Bool) where
       or_right (v + suc k == v && chosen entry) (is_chosen entries (suc v) (v + suc k))
       (subst (λ u. is_chosen entries (suc v) u ≡ true) (suc-add v k ∙ sym (add-suc v k)) (is_chosen-from_entry entries (suc v) k (omega arith) h))
 
-  -- the picked places are these but for the chosen variables, for which they are any below a bound
-  pub record Picks (entries : List (Option ℕ)) (v size : ℕ) (places picked : Places) : Type 0 where
+  -- the picked assignment is this one but for the chosen variables, which stand for any elements below a bound
+  pub record Picks (entries : List (Option ℕ)) (v size : ℕ) (assignment picked : Assignment) : Type 0 where
     pub inside : (u : ℕ) → is_chosen entries v u ≡ true → picked u < size
-    pub outside : (u : ℕ) → is_chosen entries v u ≡ false → picked u ≡ places u
+    pub outside : (u : ℕ) → is_chosen entries v u ≡ false → picked u ≡ assignment u
 
   -- what follows for the first of the entries, where it is chosen
-  Picks-first : (entry : Option ℕ) (entries : List (Option ℕ)) (v size : ℕ) (places picked : Places) → chosen entry ≡ true
-      → Picks (entry ∷ entries) v size places picked → picked v < size
-  Picks-first entry entries v size places picked t c =
+  Picks-first : (entry : Option ℕ) (entries : List (Option ℕ)) (v size : ℕ) (assignment picked : Assignment) → chosen entry ≡ true
+      → Picks (entry ∷ entries) v size assignment picked → picked v < size
+  Picks-first entry entries v size assignment picked t c =
       c.inside v (or_left (v == v && chosen entry) (is_chosen entries (suc v) v) (and_from (v == v) (chosen entry) (eq-eqb v v refl) t))
 
   -- and for the rest
-  Picks-rest : (entry : Option ℕ) (entries : List (Option ℕ)) (v size : ℕ) (places picked : Places)
-      → Picks (entry ∷ entries) v size places picked → Picks entries (suc v) size (with_place places v (picked v)) picked
-  Picks-rest entry entries v size places picked c = record {
+  Picks-rest : (entry : Option ℕ) (entries : List (Option ℕ)) (v size : ℕ) (assignment picked : Assignment)
+      → Picks (entry ∷ entries) v size assignment picked → Picks entries (suc v) size (assign assignment v (picked v)) picked
+  Picks-rest entry entries v size assignment picked c = record {
     inside = λ u e. c.inside u (or_right (u == v && chosen entry) (is_chosen entries (suc v) u) e);
     outside = λ u e. elim (cases_Bool (u == v)) [
       | inl same ↦ rw same (ap picked (eqb-true u v same))
@@ -59,16 +59,16 @@ module _ (chosen : Option ℕ → Bool) where
   }
 
   -- where it isn't, only the rest counts
-  Picks-rest_alone : (entry : Option ℕ) (entries : List (Option ℕ)) (v size : ℕ) (places picked : Places) → chosen entry ≡ false
-      → Picks (entry ∷ entries) v size places picked → Picks entries (suc v) size places picked
-  Picks-rest_alone entry entries v size places picked f c = record {
+  Picks-rest_alone : (entry : Option ℕ) (entries : List (Option ℕ)) (v size : ℕ) (assignment picked : Assignment) → chosen entry ≡ false
+      → Picks (entry ∷ entries) v size assignment picked → Picks entries (suc v) size assignment picked
+  Picks-rest_alone entry entries v size assignment picked f c = record {
     inside = λ u e. c.inside u (or_right (u == v && chosen entry) (is_chosen entries (suc v) u) e);
     outside = λ u e. c.outside u (or_from (u == v && chosen entry) (is_chosen entries (suc v) u) (and_right (u == v) (chosen entry) f) e);
   }
 
-  Picks-from_rest_alone : (entry : Option ℕ) (entries : List (Option ℕ)) (v size : ℕ) (places picked : Places) → chosen entry ≡ false
-      → Picks entries (suc v) size places picked → Picks (entry ∷ entries) v size places picked
-  Picks-from_rest_alone entry entries v size places picked f c = record {
+  Picks-from_rest_alone : (entry : Option ℕ) (entries : List (Option ℕ)) (v size : ℕ) (assignment picked : Assignment) → chosen entry ≡ false
+      → Picks entries (suc v) size assignment picked → Picks (entry ∷ entries) v size assignment picked
+  Picks-from_rest_alone entry entries v size assignment picked f c = record {
     inside = λ u e. elim (or_cases (u == v && chosen entry) (is_chosen entries (suc v) u) e) [
       | inl at ↦ absurd (true≢false (sym (and_parts (u == v) (chosen entry) at).1 ∙ f))
       | inr later ↦ c.inside u later
@@ -76,9 +76,9 @@ module _ (chosen : Option ℕ → Bool) where
     outside = λ u e. c.outside u (or_parts (u == v && chosen entry) (is_chosen entries (suc v) u) e).1;
   }
 
-  Picks-from_rest : (entry : Option ℕ) (entries : List (Option ℕ)) (v size x : ℕ) (places picked : Places) → chosen entry ≡ true → x < size
-      → Picks entries (suc v) size (with_place places v x) picked → Picks (entry ∷ entries) v size places picked
-  Picks-from_rest entry entries v size x places picked t l c = record {
+  Picks-from_rest : (entry : Option ℕ) (entries : List (Option ℕ)) (v size x : ℕ) (assignment picked : Assignment) → chosen entry ≡ true → x < size
+      → Picks entries (suc v) size (assign assignment v x) picked → Picks (entry ∷ entries) v size assignment picked
+  Picks-from_rest entry entries v size x assignment picked t l c = record {
     inside = λ u e. elim (or_cases (u == v && chosen entry) (is_chosen entries (suc v) u) e) [
       | inl at ↦ (let place = eqb-true u v (and_parts (u == v) (chosen entry) at).0 in
           subst (λ m. picked m < size) (sym place) (subst (λ m. m < size) (sym own) l))
@@ -86,45 +86,45 @@ module _ (chosen : Option ℕ → Bool) where
     ];
     outside = λ u e. (let parts = or_parts (u == v && chosen entry) (is_chosen entries (suc v) u) e in
         let apart : (u == v) ≡ false = ne_eqb u v (λ place. true≢false (sym (and_from (u == v) (chosen entry) (eq-eqb u v place) t) ∙ parts.0)) in
-        let elsewhere : with_place places v x u ≡ places u = rw apart refl in
+        let elsewhere : assign assignment v x u ≡ assignment u = rw apart refl in
         c.outside u parts.1 ∙ elsewhere);
   }
     where
       own : picked v ≡ x
       own = let same : (v == v) ≡ true = eq-eqb v v refl in
-          let here : with_place places v x v ≡ x = rw same refl in
+          let here : assign assignment v x v ≡ x = rw same refl in
           c.outside v (is_chosen-before entries (suc v) v (omega arith)) ∙ here
 
-  module _ (here : Reading) (all : (x : ℕ) → here.present x ≡ true) (test : Places → Bool) where
-    -- whether a place for variable v leads on to places that pass
-    abbrev leads_on : List (Option ℕ) → ℕ → Places → ℕ → Bool
-    leads_on entries v places x = here.present x && some_places here chosen entries (suc v) (with_place places v x) test
+  module _ (here : Reading) (all : (x : ℕ) → here.present x ≡ true) (test : Assignment → Bool) where
+    -- whether an element for variable v leads on to an assignment that passes
+    abbrev leads_on : List (Option ℕ) → ℕ → Assignment → ℕ → Bool
+    leads_on entries v assignment x = here.present x && some_assignment here chosen entries (suc v) (assign assignment v x) test
 
-    -- some places pass where these that are picked do
-    pub some_places-from_one : (entries : List (Option ℕ)) (v : ℕ) (places picked : Places) → Picks entries v here.size places picked
-        → test picked ≡ true → some_places here chosen entries v places test ≡ true
-    some_places-from_one [] v places picked c h = subst (λ (f : Places). test f ≡ true) (λ j u. c.outside u refl j) h
-    some_places-from_one (entry ∷ entries) v places picked c h = elim (cases_Bool (chosen entry)) [
-      | inl t ↦ (let found : leads_on entries v places (picked v) ≡ true =
-          and_from (here.present (picked v)) (some_places here chosen entries (suc v) (with_place places v (picked v)) test) (all (picked v))
-          (some_places-from_one entries (suc v) (with_place places v (picked v)) picked (Picks-rest entry entries v here.size places picked c) h) in
-          rw t (some_below-from_one here.size (leads_on entries v places) (picked v) (Picks-first entry entries v here.size places picked t c) found))
-      | inr f ↦ rw f (some_places-from_one entries (suc v) places picked (Picks-rest_alone entry entries v here.size places picked f c) h)
+    -- some assignment passes where the one that is picked does
+    pub some_assignment-from_one : (entries : List (Option ℕ)) (v : ℕ) (assignment picked : Assignment) → Picks entries v here.size assignment picked
+        → test picked ≡ true → some_assignment here chosen entries v assignment test ≡ true
+    some_assignment-from_one [] v assignment picked c h = subst (λ (f : Assignment). test f ≡ true) (λ j u. c.outside u refl j) h
+    some_assignment-from_one (entry ∷ entries) v assignment picked c h = elim (cases_Bool (chosen entry)) [
+      | inl t ↦ (let found : leads_on entries v assignment (picked v) ≡ true =
+          and_from (here.present (picked v)) (some_assignment here chosen entries (suc v) (assign assignment v (picked v)) test) (all (picked v))
+          (some_assignment-from_one entries (suc v) (assign assignment v (picked v)) picked (Picks-rest entry entries v here.size assignment picked c) h) in
+          rw t (some_below-from_one here.size (leads_on entries v assignment) (picked v) (Picks-first entry entries v here.size assignment picked t c) found))
+      | inr f ↦ rw f (some_assignment-from_one entries (suc v) assignment picked (Picks-rest_alone entry entries v here.size assignment picked f c) h)
     ]
 
-    -- and where some pass, some that do can be picked
-    pub one-from_some_places : (entries : List (Option ℕ)) (v : ℕ) (places : Places) → some_places here chosen entries v places test ≡ true
-        → (picked : Places) × Picks entries v here.size places picked × (test picked ≡ true)
-    one-from_some_places [] v places h = (places, record { inside = λ u e. absurd (true≢false (sym e)); outside = λ u e. refl }, h)
-    one-from_some_places (entry ∷ entries) v places h = elim (cases_Bool (chosen entry)) [
-      | inl t ↦ (let some : some_below here.size (leads_on entries v places) ≡ true = rw t at h in
-          let one = one-from_some_below here.size (leads_on entries v places) some in
-          let parts = and_parts (here.present one.0) (some_places here chosen entries (suc v) (with_place places v one.0) test) one.2 in
-          let r = one-from_some_places entries (suc v) (with_place places v one.0) parts.1 in
-          (r.0, Picks-from_rest entry entries v here.size one.0 places r.0 t one.1 r.1, r.2))
-      | inr f ↦ (let some : some_places here chosen entries (suc v) places test ≡ true = rw f at h in
-          let r = one-from_some_places entries (suc v) places some in
-          (r.0, Picks-from_rest_alone entry entries v here.size places r.0 f r.1, r.2))
+    -- and where one passes, one that does can be picked
+    pub one-from_some_assignment : (entries : List (Option ℕ)) (v : ℕ) (assignment : Assignment) → some_assignment here chosen entries v assignment test ≡ true
+        → (picked : Assignment) × Picks entries v here.size assignment picked × (test picked ≡ true)
+    one-from_some_assignment [] v assignment h = (assignment, record { inside = λ u e. absurd (true≢false (sym e)); outside = λ u e. refl }, h)
+    one-from_some_assignment (entry ∷ entries) v assignment h = elim (cases_Bool (chosen entry)) [
+      | inl t ↦ (let some : some_below here.size (leads_on entries v assignment) ≡ true = rw t at h in
+          let one = one-from_some_below here.size (leads_on entries v assignment) some in
+          let parts = and_parts (here.present one.0) (some_assignment here chosen entries (suc v) (assign assignment v one.0) test) one.2 in
+          let r = one-from_some_assignment entries (suc v) (assign assignment v one.0) parts.1 in
+          (r.0, Picks-from_rest entry entries v here.size one.0 assignment r.0 t one.1 r.1, r.2))
+      | inr f ↦ (let some : some_assignment here chosen entries (suc v) assignment test ≡ true = rw f at h in
+          let r = one-from_some_assignment entries (suc v) assignment some in
+          (r.0, Picks-from_rest_alone entry entries v here.size assignment r.0 f r.1, r.2))
     ]
 
 -- the variables that range inside the negation of literal i are those with that entry
@@ -151,7 +151,7 @@ inner-from_entry variables i u e =
     subst (λ m. is_chosen (is_entry i) variables 0 m ≡ true) z
     (is_chosen-from_entry (is_entry i) variables 0 u (entry-within variables u i e) (subst (λ o. is_entry i o ≡ true) (sym e) own))
 
--- those that range over the clause, behind its parameters, are those without an entry
+-- those that range over the clause, after its parameters, are those without an entry
 is_free-None : (o : Option ℕ) → is_free o ≡ true → o ≡ None
 is_free-None None h = refl
 is_free-None (Some j) h = absurd (true≢false (sym h))

@@ -9,7 +9,7 @@ use Rattle.rf_finite.specs.Walks.{walk_below}
 use Rattle.rf_finite.proofs.Range.{count_below-apart, count_below-all, count_below-positive}
 use Rattle.rf_finite.proofs.Walks.{IsReachable-from_walk_below, count_below-reachable_falls}
 use Rattle.rf_problem.specs.Parts.{no_predicate, predicate_at}
-use Rattle.rf_problem.specs.Reading.{Calls, Places, Reading, atom_true, clause_true, is_entry, literal_true, literals_true, predicate_true, some_places, symbol_true}
+use Rattle.rf_problem.specs.Reading.{Calls, Assignment, Reading, atom_true, clause_true, is_entry, literal_true, literals_true, predicate_true, some_assignment, symbol_true}
 use Rattle.rf_problem.specs.Valid.{ArePredicates, FitsClause, calls, calls_predicate, fit_literals, fits_literal, is_free}
 use Rattle.rf_problem.specs.declared.class.Class.{Class}
 use Rattle.rf_problem.specs.declared.predicate.Clause.{Clause}
@@ -48,29 +48,29 @@ module _ (says tells : Calls) where
       ap (λ (step : ℕ → ℕ → Bool). walk_below step here.present here.size (slice_index t 0) (slice_index t 1))
       (λ j x y. symbol-same here inside negated true symbol args agree (x ∷ y ∷ []) j)
 
-  literal-same : (here inside : Reading) (variables : List (Option ℕ)) (i : ℕ) (places : Places) (l : Literal) → ((s : ℕ) → calls_predicate s l ≡ true → Agree s)
-      → literal_true says here inside variables i places l ≡ literal_true tells here inside variables i places l
-  literal-same here inside variables i places (Call false closure symbol args) agree = atom-same here inside false closure symbol args agree (map places args)
-  literal-same here inside variables i places (Call true closure symbol args) agree =
-      ap (λ (test : Places → Bool). not (some_places inside (is_entry i) variables 0 places test))
+  literal-same : (here inside : Reading) (variables : List (Option ℕ)) (i : ℕ) (assignment : Assignment) (l : Literal) → ((s : ℕ) → calls_predicate s l ≡ true → Agree s)
+      → literal_true says here inside variables i assignment l ≡ literal_true tells here inside variables i assignment l
+  literal-same here inside variables i assignment (Call false closure symbol args) agree = atom-same here inside false closure symbol args agree (map assignment args)
+  literal-same here inside variables i assignment (Call true closure symbol args) agree =
+      ap (λ (test : Assignment → Bool). not (some_assignment inside (is_entry i) variables 0 assignment test))
       (λ j chosen. atom-same inside here true closure symbol args agree (map chosen args) j)
-  literal-same here inside variables i places (Same a b) agree = refl
-  literal-same here inside variables i places (Differ a b) agree = refl
+  literal-same here inside variables i assignment (Same a b) agree = refl
+  literal-same here inside variables i assignment (Differ a b) agree = refl
 
-  literals-same : (here inside : Reading) (variables : List (Option ℕ)) (i : ℕ) (places : Places) (ls : List Literal) → ((s : ℕ) → literals_call ls s ≡ true → Agree s)
-      → literals_true says here inside variables i places ls ≡ literals_true tells here inside variables i places ls
-  literals-same here inside variables i places [] agree = refl
-  literals-same here inside variables i places (l ∷ ls) agree =
+  literals-same : (here inside : Reading) (variables : List (Option ℕ)) (i : ℕ) (assignment : Assignment) (ls : List Literal) → ((s : ℕ) → literals_call ls s ≡ true → Agree s)
+      → literals_true says here inside variables i assignment ls ≡ literals_true tells here inside variables i assignment ls
+  literals-same here inside variables i assignment [] agree = refl
+  literals-same here inside variables i assignment (l ∷ ls) agree =
       ap₂ (λ x y. x && y)
-      (literal-same here inside variables i places l (λ s h. agree s (or_left (calls_predicate s l) (literals_call ls s) h)))
-      (literals-same here inside variables (suc i) places ls (λ s h. agree s (or_right (calls_predicate s l) (literals_call ls s) h)))
+      (literal-same here inside variables i assignment l (λ s h. agree s (or_left (calls_predicate s l) (literals_call ls s) h)))
+      (literals-same here inside variables (suc i) assignment ls (λ s h. agree s (or_right (calls_predicate s l) (literals_call ls s) h)))
 
   -- where they agree on what a clause calls, they say the same of it
   pub clause-same : (here inside : Reading) (arity : ℕ) (t : List ℕ) (c : Clause) → ((s : ℕ) → literals_call c.literals s ≡ true → Agree s)
       → clause_true says here inside arity t c ≡ clause_true tells here inside arity t c
   clause-same here inside arity t c agree =
-      ap (λ (test : Places → Bool). some_places here is_free (drop arity c.variables) arity (slice_index t) test)
-      (λ j places. literals-same here inside c.variables 0 places c.literals agree j)
+      ap (λ (test : Assignment → Bool). some_assignment here is_free (drop arity c.variables) arity (slice_index t) test)
+      (λ j assignment. literals-same here inside c.variables 0 assignment c.literals agree j)
 
   -- where they agree on what some clauses call, they say the same of them
   pub clauses-same : (here inside : Reading) (arity : ℕ) (t : List ℕ) (cs : List Clause) → ((s : ℕ) → clauses_call cs s ≡ true → Agree s)

@@ -1,3 +1,4 @@
+-- Private: no public contract cites this.
 -- Tables of the classes above each class.
 use Rattle.std.specs.Prelude.{◌≡◌, ◌==◌, ◌<◌, ℕ, List, length, slice_index_or}
 use Rattle.std.specs.FinSet.{FinSet, contains, empty}

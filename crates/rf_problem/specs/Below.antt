@@ -1,3 +1,4 @@
+-- Private: no public contract cites this.
 -- What is below the classes of a set.
 use Rattle.std.specs.Prelude.{◌≡◌, ◌==◌, ◌&&◌, ℕ, Bool, true, List}
 use Rattle.std.specs.FinSet.{FinSet, contains}

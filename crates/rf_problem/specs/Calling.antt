@@ -1,3 +1,4 @@
+-- Private: no public contract cites this.
 -- What literals and clauses call.
 use Rattle.std.specs.Prelude.{ℕ, Bool, false}
 use Rattle.std.specs.List.{list_any}

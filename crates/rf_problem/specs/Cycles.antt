@@ -1,3 +1,4 @@
+-- Private: no public contract cites this.
 -- Where edges end, and what is left once it is taken away again and again what has no edge into the rest.
 use Rattle.std.specs.Prelude.{◌≡◌, ◌<◌, ℕ, Bool, true, false}
 use Rattle.std.specs.FinSet.{FinSet, contains}

@@ -1,3 +1,4 @@
+-- Private: no public contract cites this.
 -- What some assertions say of a symbol at a tuple, one after another.
 use Rattle.std.specs.Prelude.{ℕ, List, Option, None, Some, if◌then◌else◌}
 use Rattle.rf_values.specs.declared.truth.Truth.{Truth}

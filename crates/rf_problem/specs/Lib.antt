@@ -1,14 +1,16 @@
-pub mod Above
-pub mod Asserted
-pub mod Below
-pub mod Calling
-pub mod Classes
-pub mod Contained
-pub mod Cycles
-pub mod Heard
-pub mod Laws
-pub mod Made
+-- what public contracts cite, in the order of reading
 pub mod Parts
-pub mod Raised
-pub mod Reading
+pub mod Classes
 pub mod Valid
+pub mod Made
+pub mod Contained
+pub mod Asserted
+pub mod Reading
+pub mod Laws
+-- what only the contracts of private functions cite, and lemmas
+pub mod Above
+pub mod Raised
+pub mod Below
+pub mod Cycles
+pub mod Calling
+pub mod Heard

@@ -1,3 +1,4 @@
+-- Private: no public contract cites this.
 -- What one round adds to a table of the classes above each class.
 use Rattle.std.specs.Prelude.{◌≡◌, ℕ, ◌<◌, true, List}
 use Rattle.std.specs.FinSet.{FinSet, contains}

@@ -1,4 +1,4 @@
--- What the clauses of predicates say, over a reading of the atoms: which of them hold, and over which places variables range.
+-- What the clauses of predicates say, over a reading of the atoms: which of them hold, and over which elements variables range.
 -- One evaluation serves every reading: a graph read at its nodes, and what is known of objects.
 use Rattle.std.specs.Prelude.{ℕ, zero, suc, Bool, true, false, ◌==◌, if◌then◌else◌, not, ◌&&◌, Option, None, Some, List, [], ◌∷◌, map, drop, slice_index}
 use Rattle.std.specs.List.{list_any}
@@ -13,7 +13,7 @@ use Rattle.rf_problem.specs.declared.predicate.Predicate.{Predicate}
 use Rattle.rf_problem.specs.declared.symbol.Symbol.{Symbol}
 use Rattle.rf_problem.specs.declared.symbol.Symbol.TheVariants.{Class, Reference, Predicate as Defined, Exists, Equals}
 
--- which atoms hold at places below size, and over which of these variables range
+-- which atoms hold at the elements, which are the numbers below size, and over which of them variables range
 pub record Reading : Type 0 where
   pub size : ℕ
   pub present : ℕ → Bool
@@ -22,13 +22,13 @@ pub record Reading : Type 0 where
   pub is_same : ℕ → ℕ → Bool
   pub is_different : ℕ → ℕ → Bool
 
--- a place for each variable
-abbrev pub Places : Type 0
-Places = ℕ → ℕ
+-- the element that each variable stands for
+abbrev pub Assignment : Type 0
+Assignment = ℕ → ℕ
 
--- these places, but x for variable v
-abbrev pub with_place : Places → ℕ → ℕ → Places
-with_place places v x u = if u == v then x else places u
+-- this assignment, but x for variable v
+abbrev pub assign : Assignment → ℕ → ℕ → Assignment
+assign assignment v x u = if u == v then x else assignment u
 
 -- what calls of predicates say: over a reading, the reading inside negations, a predicate and a tuple
 abbrev pub Calls : Type 0
@@ -42,46 +42,46 @@ symbol_true calls here inside (Defined q) t = calls here inside q t
 symbol_true calls here inside Exists t = false
 symbol_true calls here inside Equals t = false
 
--- whether it does, or, with closure, whether a walk of its steps leads from the first place to the second
+-- whether it does, or, with closure, whether a walk of its steps leads from the first element to the second
 abbrev pub atom_true : Calls → Reading → Reading → Bool → Symbol → List ℕ → Bool
 atom_true calls here inside false symbol t = symbol_true calls here inside symbol t
 atom_true calls here inside true symbol t =
     walk_below (λ x y. symbol_true calls here inside symbol (x ∷ y ∷ [])) here.present here.size (slice_index t 0) (slice_index t 1)
 
--- whether some present places for the variables from v on, those whose entry is chosen, pass the test
-abbrev pub some_places : Reading → (Option ℕ → Bool) → List (Option ℕ) → ℕ → Places → (Places → Bool) → Bool
-some_places here chosen [] v places test = test places
-some_places here chosen (entry ∷ entries) v places test =
+-- whether some present elements for the variables from v on, those whose entry is chosen, make the assignment pass the test
+abbrev pub some_assignment : Reading → (Option ℕ → Bool) → List (Option ℕ) → ℕ → Assignment → (Assignment → Bool) → Bool
+some_assignment here chosen [] v assignment test = test assignment
+some_assignment here chosen (entry ∷ entries) v assignment test =
     if chosen entry
-    then some_below here.size (λ x. here.present x && some_places here chosen entries (suc v) (with_place places v x) test)
-    else some_places here chosen entries (suc v) places test
+    then some_below here.size (λ x. here.present x && some_assignment here chosen entries (suc v) (assign assignment v x) test)
+    else some_assignment here chosen entries (suc v) assignment test
 
 -- whether a variable ranges inside the negation of literal i
 abbrev pub is_entry : ℕ → Option ℕ → Bool
 is_entry i None = false
 is_entry i (Some j) = i == j
 
--- whether literal i of a clause with these variables holds; inside a negation the readings change places
-abbrev pub literal_true : Calls → Reading → Reading → List (Option ℕ) → ℕ → Places → Literal → Bool
-literal_true calls here inside variables i places (Call false closure symbol args) =
-    atom_true calls here inside closure symbol (map places args)
-literal_true calls here inside variables i places (Call true closure symbol args) =
-    not (some_places inside (is_entry i) variables 0 places (λ chosen. atom_true calls inside here closure symbol (map chosen args)))
-literal_true calls here inside variables i places (Same a b) = here.is_same (places a) (places b)
-literal_true calls here inside variables i places (Differ a b) = here.is_different (places a) (places b)
+-- whether literal i of a clause with these variables holds; inside a negation the readings are exchanged
+abbrev pub literal_true : Calls → Reading → Reading → List (Option ℕ) → ℕ → Assignment → Literal → Bool
+literal_true calls here inside variables i assignment (Call false closure symbol args) =
+    atom_true calls here inside closure symbol (map assignment args)
+literal_true calls here inside variables i assignment (Call true closure symbol args) =
+    not (some_assignment inside (is_entry i) variables 0 assignment (λ chosen. atom_true calls inside here closure symbol (map chosen args)))
+literal_true calls here inside variables i assignment (Same a b) = here.is_same (assignment a) (assignment b)
+literal_true calls here inside variables i assignment (Differ a b) = here.is_different (assignment a) (assignment b)
 
 -- whether the literals from number i on hold
-abbrev pub literals_true : Calls → Reading → Reading → List (Option ℕ) → ℕ → Places → List Literal → Bool
-literals_true calls here inside variables i places [] = true
-literals_true calls here inside variables i places (l ∷ ls) =
-    literal_true calls here inside variables i places l && literals_true calls here inside variables (suc i) places ls
+abbrev pub literals_true : Calls → Reading → Reading → List (Option ℕ) → ℕ → Assignment → List Literal → Bool
+literals_true calls here inside variables i assignment [] = true
+literals_true calls here inside variables i assignment (l ∷ ls) =
+    literal_true calls here inside variables i assignment l && literals_true calls here inside variables (suc i) assignment ls
 
--- whether a clause holds at a tuple: its parameters stand for the tuple's places, and some places for its other
+-- whether a clause holds at a tuple: its parameters stand for the tuple's elements, and some elements for its other
 -- variables make every literal hold
 abbrev pub clause_true : Calls → Reading → Reading → ℕ → List ℕ → Clause → Bool
 clause_true calls here inside arity t c =
-    some_places here is_free (drop arity c.variables) arity (slice_index t)
-    (λ places. literals_true calls here inside c.variables 0 places c.literals)
+    some_assignment here is_free (drop arity c.variables) arity (slice_index t)
+    (λ assignment. literals_true calls here inside c.variables 0 assignment c.literals)
 
 -- whether a predicate holds at a tuple: some clause of it does; calls go at most `depth` deep
 abbrev pub predicate_true : List Predicate → ℕ → Calls

@@ -33,6 +33,3 @@ pub use reference::{RefKind, Reference};
 pub use scope::Scope;
 pub use stock::new_objects;
 pub use symbol::Symbol;
-
-#[cfg(test)]
-mod tests;

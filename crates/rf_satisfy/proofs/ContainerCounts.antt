@@ -59,9 +59,9 @@ module _ (p : Problem) (g : Graph) where
       → is_containing p (get_or es i d).reference ≡ true → c ≡ get_or counts (get_or es i d).to 0 + 1
       → ((z : ℕ) → z < n → get_or counts z 0 ≡ count_by (contains_node p z) (take i es))
       → (z : ℕ) → z < n → get_or (set counts (get_or es i d).to c) z 0 ≡ count_by (contains_node p z) (take (i + 1) es)
-  counts-more n counts es i d c l same_len to holds more so_far z lz = elim (cases_eq z (get_or es i d).to) [
+  counts-more n counts es i d c l same_len to contained more so_far z lz = elim (cases_eq z (get_or es i d).to) [
     | inl s ↦ (let here : contains_node p z (get_or es i d) ≡ true =
-        and_from (is_containing p (get_or es i d).reference) (eqb (get_or es i d).to z) holds (eq-eqb (get_or es i d).to z (sym s)) in
+        and_from (is_containing p (get_or es i d).reference) (eqb (get_or es i d).to z) contained (eq-eqb (get_or es i d).to z (sym s)) in
         let now : get_or (set counts (get_or es i d).to c) z 0 ≡ c =
         subst (λ z. get_or (set counts (get_or es i d).to c) z 0 ≡ c) (sym s) (get_or-set_same counts (get_or es i d).to c 0 (omega arith)) in
         let was : get_or counts z 0 ≡ get_or counts (get_or es i d).to 0 = ap (λ z. get_or counts z 0) s in

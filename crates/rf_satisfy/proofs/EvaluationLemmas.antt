@@ -7,7 +7,7 @@ use Rattle.std.specs.Prelude.{slice_index, All}
 use Rattle.rf_finite.specs.Range.{some_below}
 use Rattle.rf_problem.specs.Parts.{arity_of, no_predicate, predicate_at}
 use Rattle.rf_problem.specs.Classes.{is_below}
-use Rattle.rf_problem.specs.Reading.{Places, Reading, literals_true, predicate_true, some_places, with_place}
+use Rattle.rf_problem.specs.Reading.{Assignment, Reading, literals_true, predicate_true, some_assignment, assign}
 use Rattle.rf_finite.specs.Walks.{walk_below}
 use Rattle.rf_graph.specs.Graph.{class_of, has_edge, size_of}
 use Rattle.rf_problem.specs.Valid.{FitsClause, fit_literals, is_declared, is_free}
@@ -24,38 +24,38 @@ cases_lt : (k n : ℕ) → (k < n) ⊎ (n ≤ k)
 cases_lt k n = elim (cases_order k n) [ inl e ↦ inr (omega arith) | inr s ↦ elim s [ inl l ↦ inl l | inr g ↦ inr (omega arith) ] ]
 
 -- the variable of number v is tried, or passed over
-pub some_places-at : (here : Reading) (chosen : Option ℕ → Bool) (entries : List (Option ℕ)) (v : ℕ) (places : Places) (test : Places → Bool) → v < length entries
-    → some_places here chosen (drop v entries) v places test
+pub some_assignment-at : (here : Reading) (chosen : Option ℕ → Bool) (entries : List (Option ℕ)) (v : ℕ) (assignment : Assignment) (test : Assignment → Bool) → v < length entries
+    → some_assignment here chosen (drop v entries) v assignment test
     ≡ cond (chosen (get_or entries v None))
-    (some_below here.size (λ x. here.present x && some_places here chosen (drop (suc v) entries) (suc v) (with_place places v x) test))
-    (some_places here chosen (drop (suc v) entries) (suc v) places test)
-some_places-at here chosen entries v places test l = rw (drop-cons entries v None) refl
+    (some_below here.size (λ x. here.present x && some_assignment here chosen (drop (suc v) entries) (suc v) (assign assignment v x) test))
+    (some_assignment here chosen (drop (suc v) entries) (suc v) assignment test)
+some_assignment-at here chosen entries v assignment test l = rw (drop-cons entries v None) refl
 
--- cells that hold the places of nodes do with one node more
-pub AreNodes-with_place : (cells places : List ℕ) (n v x : ℕ) → slice_index cells ≡ with_place (slice_index places) v x → x < n → AreNodes n places → AreNodes n cells
-AreNodes-with_place cells places n v x e l h k = subst (λ (y : ℕ). y < max 1 n) (sym (ap (λ (f : Places). f k) e)) (elim (cases_Bool (eqb k v)) [
+-- cells that hold the assignment of nodes do with one node more
+pub AreNodes-assign : (cells assignment : List ℕ) (n v x : ℕ) → slice_index cells ≡ assign (slice_index assignment) v x → x < n → AreNodes n assignment → AreNodes n cells
+AreNodes-assign cells assignment n v x e l h k = subst (λ (y : ℕ). y < max 1 n) (sym (ap (λ (f : Assignment). f k) e)) (elim (cases_Bool (eqb k v)) [
   | inl q ↦ rw q (omega arith)
   | inr q ↦ rw q (h k)
 ])
 
--- cells that hold the places of arguments are nodes where those are
-pub AreNodes-arguments : (cells places args : List ℕ) (n : ℕ) → slice_index cells ≡ slice_index (map (slice_index places) args) → AreNodes n places → AreNodes n cells
-AreNodes-arguments cells places args n e h k = subst (λ (y : ℕ). y < max 1 n) (sym (ap (λ (f : Places). f k) e)) (each args k)
+-- cells that hold the assignment of arguments are nodes where those are
+pub AreNodes-arguments : (cells assignment args : List ℕ) (n : ℕ) → slice_index cells ≡ slice_index (map (slice_index assignment) args) → AreNodes n assignment → AreNodes n cells
+AreNodes-arguments cells assignment args n e h k = subst (λ (y : ℕ). y < max 1 n) (sym (ap (λ (f : Assignment). f k) e)) (each args k)
   where
-    each : (args : List ℕ) (k : ℕ) → get_or (map (slice_index places) args) k 0 < max 1 n
+    each : (args : List ℕ) (k : ℕ) → get_or (map (slice_index assignment) args) k 0 < max 1 n
     each [] k = omega arith
     each (a ∷ rest) zero = h a
     each (a ∷ rest) (suc k) = each rest k
 
 -- cells that hold a tuple of nodes are nodes
 pub AreNodes-tuple : (cells t : List ℕ) (n : ℕ) → slice_index cells ≡ slice_index t → All (λ x. x < n) t → AreNodes n cells
-AreNodes-tuple cells t n e h k = subst (λ (y : ℕ). y < max 1 n) (sym (ap (λ (f : Places). f k) e)) (elim (cases_lt k (length t)) [
+AreNodes-tuple cells t n e h k = subst (λ (y : ℕ). y < max 1 n) (sym (ap (λ (f : Assignment). f k) e)) (elim (cases_lt k (length t)) [
   | inl l ↦ (let node = h k 0 l in omega arith)
   | inr g ↦ rw (get_or_past t k 0 g) (omega arith)
 ])
 
 pub AreNodes-pair : (cells : List ℕ) (a b n : ℕ) → slice_index cells ≡ slice_index (a ∷ b ∷ []) → a < max 1 n → b < max 1 n → AreNodes n cells
-AreNodes-pair cells a b n e la lb k = subst (λ (y : ℕ). y < max 1 n) (sym (ap (λ (f : Places). f k) e)) (each k)
+AreNodes-pair cells a b n e la lb k = subst (λ (y : ℕ). y < max 1 n) (sym (ap (λ (f : Assignment). f k) e)) (each k)
   where
     each : (k : ℕ) → get_or (a ∷ b ∷ []) k 0 < max 1 n
     each zero = la
@@ -67,17 +67,17 @@ pub atom_at-empty : (p : Problem) (g : Graph) (depth : ℕ) (s : Symbol) (t : Li
     → atom_at p g depth true s t ≡ symbol_at p g depth s (slice_index t 0 ∷ slice_index t 1 ∷ [])
 atom_at-empty p g depth s t e = rw e refl
 
--- calls read no more of a tuple than its places
+-- calls read no more of a tuple than its assignment
 predicate_true-same : (ps : List Predicate) (depth : ℕ) (here inside : Reading) (q : ℕ) (t u : List ℕ) → slice_index t ≡ slice_index u
     → predicate_true ps depth here inside q t ≡ predicate_true ps depth here inside q u
 predicate_true-same ps zero here inside q t u e = refl
 predicate_true-same ps (suc depth) here inside q t u e =
-    ap (λ (f : Places). list_any (λ c. some_places here is_free (drop (predicate_at ps q).arity c.variables) (predicate_at ps q).arity f
-    (λ places. literals_true (predicate_true ps depth) here inside c.variables 0 places c.literals)) (predicate_at ps q).clauses) e
+    ap (λ (f : Assignment). list_any (λ c. some_assignment here is_free (drop (predicate_at ps q).arity c.variables) (predicate_at ps q).arity f
+    (λ assignment. literals_true (predicate_true ps depth) here inside c.variables 0 assignment c.literals)) (predicate_at ps q).clauses) e
 
 pub symbol_at-same : (p : Problem) (g : Graph) (depth : ℕ) (s : Symbol) (t u : List ℕ) → slice_index t ≡ slice_index u → symbol_at p g depth s t ≡ symbol_at p g depth s u
-symbol_at-same p g depth (Class k) t u e = ap (λ (f : Places). is_below p.classes (class_of g (f 0)) k) e
-symbol_at-same p g depth (Reference r) t u e = ap (λ (f : Places). has_edge g r (f 0) (f 1)) e
+symbol_at-same p g depth (Class k) t u e = ap (λ (f : Assignment). is_below p.classes (class_of g (f 0)) k) e
+symbol_at-same p g depth (Reference r) t u e = ap (λ (f : Assignment). has_edge g r (f 0) (f 1)) e
 symbol_at-same p g depth (Defined q) t u e = predicate_true-same p.predicates depth _ _ q t u e
 symbol_at-same p g depth Exists t u e = refl
 symbol_at-same p g depth Equals t u e = refl
@@ -86,9 +86,9 @@ pub atom_at-same : (p : Problem) (g : Graph) (depth : ℕ) (closure : Bool) (s :
     → atom_at p g depth closure s t ≡ atom_at p g depth closure s u
 atom_at-same p g depth false s t u e = symbol_at-same p g depth s t u e
 atom_at-same p g depth true s t u e =
-    ap (λ (f : Places). walk_below (λ x y. symbol_at p g depth s (x ∷ y ∷ [])) (λ x. true) (size_of g) (f 0) (f 1)) e
+    ap (λ (f : Assignment). walk_below (λ x y. symbol_at p g depth s (x ∷ y ∷ [])) (λ x. true) (size_of g) (f 0) (f 1)) e
 
--- literal i of those that fit is well formed, and those behind it fit
+-- literal i of those that fit is well formed, and those after it fit
 pub IsSound-at : (p : Problem) (variables : List (Option ℕ)) (i : ℕ) (ls : List Literal) (l : Literal) → i < length ls
     → fit_literals (length p.classes) (length p.references) p.predicates variables i (drop i ls) ≡ true → l ≡ get_or ls i l
     → IsSound p variables i l × (fit_literals (length p.classes) (length p.references) p.predicates variables (i + 1) (drop (i + 1) ls) ≡ true)

@@ -1,8 +1,8 @@
 -- The first violation of a kind, met in a search through numbers, or as the first of a list of edges.
-use Rattle.std.proofs.Common.{◌≡◌, ℕ, ◌+◌, ◌<◌, ◌≤◌, Bool, true, false, ◌&&◌, ◌||◌, eqb, Option, Some, None, List, length, get_or, take, refl, sym, ap, ◌∙◌, subst, ◌⊎◌, inl, inr, arith, add-one, true≢false}
+use Rattle.std.proofs.Common.{◌≡◌, ℕ, ◌+◌, ◌<◌, ◌≤◌, Bool, true, false, ◌&&◌, ◌||◌, eqb, Option, Some, None, List, length, get_or, take, refl, sym, ap, ◌∙◌, subst, ◌⊎◌, inl, inr, arith}
 use Rattle.std.specs.Prelude.{All, nat_lt}
 use Rattle.std.specs.List.{list_any}
-use Rattle.std.specs.Option.{is_some, option_map}
+use Rattle.std.specs.Option.{option_map}
 use Rattle.std.proofs.lemmas.Bool.{and_parts, and_from, or_cases, or_left, or_right, cases_Bool, both_ways, false_from_ne_true, eq-eqb, eqb-true, ltb-true, lt-ltb}
 use Rattle.std.proofs.lemmas.List.{take_all}
 use Rattle.std.proofs.lemmas.List.Elements.{All-more}
@@ -29,18 +29,6 @@ pub first_below-when : (n : ℕ) (test : ℕ → Bool) (v : ℕ → Violation) (
     → test k ≡ true → Some (v k) ≡ first_below n (λ x. when (test x) (v x))
 first_below-when n test v k l none t =
     sym (first_below-at n (λ x. when (test x) (v x)) k (v k) l none (when-true (test k) (v k) t))
-
--- what it finds there is the first value
-pub first_below-found : (n : ℕ) (f : ℕ → Option Violation) (k : ℕ) (found : Option Violation) → k < n → first_below k f ≡ None → found ≡ f k → is_some found ≡ true
-    → found ≡ first_below n f
-first_below-found n f k None l none e s = absurd (true≢false (sym s))
-first_below-found n f k (Some v) l none e s = sym (first_below-at n f k v l none (sym e))
-
--- nor does it find something so far where it finds nothing there
-pub first_below-more : (test : ℕ → Bool) (v : ℕ → Violation) (k : ℕ) → first_below k (λ x. when (test x) (v x)) ≡ None → test k ≡ false
-    → first_below (k + 1) (λ x. when (test x) (v x)) ≡ None
-first_below-more test v k none f =
-    let here = when-false (test k) (v k) f in rw (add-one, none) here
 
 -- edge e comes before edge f
 abbrev pub Before : Edge → Edge → Type 0

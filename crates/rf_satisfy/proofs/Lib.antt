@@ -3,9 +3,9 @@ pub mod Counts
 pub mod PeelingLemmas
 pub mod ContainerCounts
 pub mod Firsts
-pub mod HolderLemmas
-pub mod Kept
-pub mod PlaceLemmas
+pub mod ContainerLemmas
+pub mod ObjectCounts
+pub mod AssignmentLemmas
 pub mod EvaluationLemmas
 pub mod TupleLemmas
 pub mod NodeListLemmas

@@ -8,7 +8,7 @@ use Rattle.std.proofs.lemmas.List.Folds.{Any-from_list_any}
 use Rattle.rf_finite.proofs.Lists.{list_any-more_pass}
 use Rattle.rf_finite.proofs.Range.{some_below-from_one, some_below-none}
 use Rattle.rf_finite.specs.Range.{some_below}
-use Rattle.rf_problem.specs.Reading.{with_place}
+use Rattle.rf_problem.specs.Reading.{assign}
 use Rattle.rf_problem.specs.Valid.{is_free}
 use Rattle.rf_problem.specs.declared.predicate.Clause.{Clause}
 use Rattle.rf_problem.specs.declared.predicate.Literal.{Literal}
@@ -19,33 +19,33 @@ use Rattle.rf_graph.specs.declared.graph.Graph.{Graph}
 use Rattle.rf_satisfy.specs.EdgeEnds.{is_listed}
 use Rattle.rf_satisfy.specs.Evaluation.{literal_at, literals_at, some_literals}
 use Rattle.rf_satisfy.specs.Pruning.{AgreeBelow, FailElsewhere, FailsElsewhere}
-use Rattle.rf_satisfy.proofs.PruningLemmas.{some_places-false}
+use Rattle.rf_satisfy.proofs.PruningLemmas.{some_assignment-false}
 
 -- literals fail where one of them does
-pub FailElsewhere-from_one : (p : Problem) (g : Graph) (v : ℕ) (places nodes : List ℕ) (ls : List Literal) (j : ℕ) (l : Literal) → j < length ls → l ≡ get_or ls j l
-    → FailsElsewhere p g v places nodes l → FailElsewhere p g v places nodes ls
-FailElsewhere-from_one p g v places nodes [] j l lj e f = absurd (omega arith)
-FailElsewhere-from_one p g v places nodes (m ∷ ls) zero l lj e f = λ depth i variables others agree off.
+pub FailElsewhere-from_one : (p : Problem) (g : Graph) (v : ℕ) (assignment nodes : List ℕ) (ls : List Literal) (j : ℕ) (l : Literal) → j < length ls → l ≡ get_or ls j l
+    → FailsElsewhere p g v assignment nodes l → FailElsewhere p g v assignment nodes ls
+FailElsewhere-from_one p g v assignment nodes [] j l lj e f = absurd (omega arith)
+FailElsewhere-from_one p g v assignment nodes (m ∷ ls) zero l lj e f = λ depth i variables others agree off.
     let here : literal_at p g depth variables i others m ≡ false = subst (λ (k : Literal). literal_at p g depth variables i others k ≡ false) e (f depth i variables others agree off) in
     rw here refl
-FailElsewhere-from_one p g v places nodes (m ∷ ls) (suc j) l lj e f = λ depth i variables others agree off.
-    let rest = FailElsewhere-from_one p g v places nodes ls j l (omega arith) e f depth (suc i) variables others agree off in
+FailElsewhere-from_one p g v assignment nodes (m ∷ ls) (suc j) l lj e f = λ depth i variables others agree off.
+    let rest = FailElsewhere-from_one p g v assignment nodes ls j l (omega arith) e f depth (suc i) variables others agree off in
     elim (cases_Bool (literal_at p g depth variables i others m)) [ inl t ↦ rw (t, rest) refl | inr t ↦ rw t refl ]
 
-pub FailElsewhere-from_found : (p : Problem) (g : Graph) (v : ℕ) (places : List ℕ) (ls : List Literal) (j : ℕ) (l : Literal) → j < length ls → l ≡ get_or ls j l
-    → (found : Option (Bor (List ℕ))) → IfSome found (λ nodes. FailsElsewhere p g v places nodes.now l) → IfSome found (λ nodes. FailElsewhere p g v places nodes.now ls)
-FailElsewhere-from_found p g v places ls j l lj e None f = f
-FailElsewhere-from_found p g v places ls j l lj e (Some nodes) f = FailElsewhere-from_one p g v places nodes.now ls j l lj e f
+pub FailElsewhere-from_found : (p : Problem) (g : Graph) (v : ℕ) (assignment : List ℕ) (ls : List Literal) (j : ℕ) (l : Literal) → j < length ls → l ≡ get_or ls j l
+    → (found : Option (Bor (List ℕ))) → IfSome found (λ nodes. FailsElsewhere p g v assignment nodes.now l) → IfSome found (λ nodes. FailElsewhere p g v assignment nodes.now ls)
+FailElsewhere-from_found p g v assignment ls j l lj e None f = f
+FailElsewhere-from_found p g v assignment ls j l lj e (Some nodes) f = FailElsewhere-from_one p g v assignment nodes.now ls j l lj e f
 
 -- a node that is not listed makes the clause false
-elsewhere-false : (p : Problem) (g : Graph) (depth : ℕ) (c : Clause) (entries : List (Option ℕ)) (v : ℕ) (places nodes : List ℕ) (x : ℕ) → FailElsewhere p g v places nodes c.literals
-    → is_listed nodes x ≡ false → some_literals p g depth c entries (suc v) (with_place (slice_index places) v x) ≡ false
-elsewhere-false p g depth c entries v places nodes x f off =
-    some_places-false (graph_reading p g) is_free entries (suc v) (with_place (slice_index places) v x) (λ others. literals_at p g depth c.variables 0 others c.literals)
+elsewhere-false : (p : Problem) (g : Graph) (depth : ℕ) (c : Clause) (entries : List (Option ℕ)) (v : ℕ) (assignment nodes : List ℕ) (x : ℕ) → FailElsewhere p g v assignment nodes c.literals
+    → is_listed nodes x ≡ false → some_literals p g depth c entries (suc v) (assign (slice_index assignment) v x) ≡ false
+elsewhere-false p g depth c entries v assignment nodes x f off =
+    some_assignment-false (graph_reading p g) is_free entries (suc v) (assign (slice_index assignment) v x) (λ others. literals_at p g depth c.variables 0 others c.literals)
     (λ others agree.
     let same : eqb v v ≡ true = eq-eqb v v refl in
     let at : others v ≡ x = agree v (omega arith) ∙ (rw same refl) in
-    let below : AgreeBelow v (slice_index places) others = λ k lk. agree k (omega arith) ∙ (let e : eqb k v ≡ false = ne_eqb k v (λ q. omega arith) in rw e refl) in
+    let below : AgreeBelow v (slice_index assignment) others = λ k lk. agree k (omega arith) ∙ (let e : eqb k v ≡ false = ne_eqb k v (λ q. omega arith) in rw e refl) in
     f depth 0 c.variables others below (ap (is_listed nodes) at ∙ off))
 
 -- where a test passes at listed numbers alone, some number passes exactly where a listed one does
@@ -64,10 +64,10 @@ some_below-among n test nodes there off = elim (cases_Bool (list_any test nodes)
 ]
 
 -- so some node makes the clause true exactly where a listed one does
-pub some_below-listed : (p : Problem) (g : Graph) (depth : ℕ) (c : Clause) (entries : List (Option ℕ)) (v : ℕ) (places nodes : List ℕ) → FailElsewhere p g v places nodes c.literals
+pub some_below-listed : (p : Problem) (g : Graph) (depth : ℕ) (c : Clause) (entries : List (Option ℕ)) (v : ℕ) (assignment nodes : List ℕ) → FailElsewhere p g v assignment nodes c.literals
     → All (λ x. x < size_of g) nodes
-    → some_below (size_of g) (λ x. some_literals p g depth c entries (suc v) (with_place (slice_index places) v x))
-    ≡ list_any (λ x. some_literals p g depth c entries (suc v) (with_place (slice_index places) v x)) nodes
-some_below-listed p g depth c entries v places nodes f there =
-    some_below-among (size_of g) (λ x. some_literals p g depth c entries (suc v) (with_place (slice_index places) v x)) nodes there
-    (λ x off. elsewhere-false p g depth c entries v places nodes x f off)
+    → some_below (size_of g) (λ x. some_literals p g depth c entries (suc v) (assign (slice_index assignment) v x))
+    ≡ list_any (λ x. some_literals p g depth c entries (suc v) (assign (slice_index assignment) v x)) nodes
+some_below-listed p g depth c entries v assignment nodes f there =
+    some_below-among (size_of g) (λ x. some_literals p g depth c entries (suc v) (assign (slice_index assignment) v x)) nodes there
+    (λ x off. elsewhere-false p g depth c entries v assignment nodes x f off)

@@ -26,46 +26,46 @@ use Rattle.rf_satisfy.specs.Tuples.{ArePassing, IsFirst, IsTuple, earlier, first
 use Rattle.rf_satisfy.proofs.TupleLemmas.{IsFirst-earlier, IsFirst-same, first_passing-from_IsFirst, first_passing-none, first_tuple-is}
 
 module _ (f : ℕ → ℕ) where
-  -- arguments that match a front and one place more
-  pub matched-more : (args : List (Option ℕ)) (front : List ℕ) (x : ℕ) → length front < length args
-      → match_each (take (length front) args) (map f front) ≡ true → matches (get_or args (length front) None) (f x) ≡ true
-      → match_each (take (length (front ++ x ∷ [])) args) (map f (front ++ x ∷ [])) ≡ true
-  matched-more [] front x l h m = absurd (omega arith)
+  -- arguments that match a prefix and one argument more
+  pub matched-more : (args : List (Option ℕ)) (prefix : List ℕ) (x : ℕ) → length prefix < length args
+      → match_each (take (length prefix) args) (map f prefix) ≡ true → matches (get_or args (length prefix) None) (f x) ≡ true
+      → match_each (take (length (prefix ++ x ∷ [])) args) (map f (prefix ++ x ∷ [])) ≡ true
+  matched-more [] prefix x l h m = absurd (omega arith)
   matched-more (a ∷ args) [] x l h m = and_from (matches a (f x)) true m refl
-  matched-more (a ∷ args) (y ∷ front) x l h m =
-      let parts = and_parts (matches a (f y)) (match_each (take (length front) args) (map f front)) h in
-      and_from (matches a (f y)) (match_each (take (length (front ++ x ∷ [])) args) (map f (front ++ x ∷ []))) parts.0
-      (matched-more args front x (omega arith) parts.1 m)
+  matched-more (a ∷ args) (y ∷ prefix) x l h m =
+      let parts = and_parts (matches a (f y)) (match_each (take (length prefix) args) (map f prefix)) h in
+      and_from (matches a (f y)) (match_each (take (length (prefix ++ x ∷ [])) args) (map f (prefix ++ x ∷ []))) parts.0
+      (matched-more args prefix x (omega arith) parts.1 m)
 
-  -- where they don't match the place behind the front, they match nothing that goes on with it
-  pub unmatched : (args : List (Option ℕ)) (front : List ℕ) (x : ℕ) (u : List ℕ) → length front < length args
-      → matches (get_or args (length front) None) (f x) ≡ false → match_each args (map f ((front ++ x ∷ []) ++ u)) ≡ false
-  unmatched [] front x u l m = absurd (omega arith)
+  -- where the argument after the prefix doesn't match, nothing matches that goes on with it
+  pub unmatched : (args : List (Option ℕ)) (prefix : List ℕ) (x : ℕ) (u : List ℕ) → length prefix < length args
+      → matches (get_or args (length prefix) None) (f x) ≡ false → match_each args (map f ((prefix ++ x ∷ []) ++ u)) ≡ false
+  unmatched [] prefix x u l m = absurd (omega arith)
   unmatched (a ∷ args) [] x u l m = rw m refl
-  unmatched (a ∷ args) (y ∷ front) x u l m = let rest = unmatched args front x u (omega arith) m in
+  unmatched (a ∷ args) (y ∷ prefix) x u l m = let rest = unmatched args prefix x u (omega arith) m in
       elim (cases_Bool (matches a (f y))) [ inl e ↦ rw (e, rest) refl | inr e ↦ rw e refl ]
 
 -- the search at the nodes that match alone is the search at all nodes
-module _ (p : Problem) (g : Graph) (s : Symbol) (args : List (Option ℕ)) (value : Truth) (front items : List ℕ) (more : ℕ)
-    (short : length front < length args) (nodes : ArePassing (size_of g) (λ x. matches (get_or args (length front) None) (origin_of g x)) items) where
+module _ (p : Problem) (g : Graph) (s : Symbol) (args : List (Option ℕ)) (value : Truth) (prefix items : List ℕ) (more : ℕ)
+    (short : length prefix < length args) (nodes : ArePassing (size_of g) (λ x. matches (get_or args (length prefix) None) (origin_of g x)) items) where
   abbrev goes_on : ℕ → Option (List ℕ)
-  goes_on x = first_passing (size_of g) more (front ++ x ∷ []) (is_suspect p g s args value)
+  goes_on x = first_passing (size_of g) more (prefix ++ x ∷ []) (is_suspect p g s args value)
 
-  passed_over : (x : ℕ) → matches (get_or args (length front) None) (origin_of g x) ≡ false → goes_on x ≡ None
-  passed_over x m = first_passing-none (size_of g) more (front ++ x ∷ []) (is_suspect p g s args value) (λ u h.
-      let e = unmatched (origin_of g) args front x u short m in rw e refl)
+  passed_over : (x : ℕ) → matches (get_or args (length prefix) None) (origin_of g x) ≡ false → goes_on x ≡ None
+  passed_over x m = first_passing-none (size_of g) more (prefix ++ x ∷ []) (is_suspect p g s args value) (λ u h.
+      let e = unmatched (origin_of g) args prefix x u short m in rw e refl)
 
   below : (x : ℕ) → x < size_of g → ((i : ℕ) → i < length items → get_or items i 0 ≡ x → goes_on x ≡ None) → goes_on x ≡ None
-  below x l h = elim (cases_Bool (matches (get_or args (length front) None) (origin_of g x))) [
+  below x l h = elim (cases_Bool (matches (get_or args (length prefix) None) (origin_of g x))) [
     | inl t ↦ (let c = Any-from_list_any (λ y. eqb y x) items (nodes.complete x l t) in h c.0 c.2 (get_or_default items c.0 0 c.1 c.2 ∙ (c.3 ∙ eqb-true c.1 x c.4)))
     | inr f ↦ passed_over x f
   ]
 
-  pub search-none : ((i : ℕ) → i < length items → goes_on (get_or items i 0) ≡ None) → first_passing (size_of g) (suc more) front (is_suspect p g s args value) ≡ None
+  pub search-none : ((i : ℕ) → i < length items → goes_on (get_or items i 0) ≡ None) → first_passing (size_of g) (suc more) prefix (is_suspect p g s args value) ≡ None
   search-none none = first_below-none (size_of g) goes_on (λ x l. below x l (λ i li e. subst (λ (y : ℕ). goes_on y ≡ None) e (none i li)))
 
   pub search-here : (j : ℕ) (t : List ℕ) → j < length items → ((i : ℕ) → i < j → goes_on (get_or items i 0) ≡ None) → goes_on (get_or items j 0) ≡ Some t
-      → first_passing (size_of g) (suc more) front (is_suspect p g s args value) ≡ Some t
+      → first_passing (size_of g) (suc more) prefix (is_suspect p g s args value) ≡ Some t
   search-here j t l none here =
       let lj = (nodes.only j l).0 in
       first_below-at (size_of g) goes_on (get_or items j 0) t lj
@@ -122,7 +122,7 @@ list_any-weaker p q (x ∷ xs) w e = elim (or_cases (p x) (list_any p xs) e) [
   | inr r ↦ or_right (q x) (list_any q xs) (list_any-weaker p q xs w r)
 ]
 
--- what isn't kept altogether is so at some assertion, or at an error predicate
+-- what isn't satisfied altogether is so at some assertion, or at an error predicate
 module _ (p : Problem) (g : Graph) (s : Symbol) (t : List ℕ) where
   abbrev objects : List ℕ
   objects = map (origin_of g) t
@@ -198,37 +198,37 @@ is_some-false : {A : Type 0} (o : Option A) → is_some o ≡ false → o ≡ No
 is_some-false None e = refl
 is_some-false (Some a) e = absurd (true≢false e)
 
--- a loop through the nodes that match the argument behind the front
-module _ (p : Problem) (g : Graph) (s : Symbol) (args : List (Option ℕ)) (value : Truth) (front items : List ℕ)
-    (short : length front < length args) (nodes : ArePassing (size_of g) (λ x. matches (get_or args (length front) None) (origin_of g x)) items) where
+-- a loop through the nodes that match the argument after the prefix
+module _ (p : Problem) (g : Graph) (s : Symbol) (args : List (Option ℕ)) (value : Truth) (prefix items : List ℕ)
+    (short : length prefix < length args) (nodes : ArePassing (size_of g) (λ x. matches (get_or args (length prefix) None) (origin_of g x)) items) where
   abbrev more : ℕ
-  more = length args - (length front + 1)
+  more = length args - (length prefix + 1)
 
   abbrev next : ℕ → Option (List ℕ)
-  next i = first_passing (size_of g) more (front ++ get_or items i 0 ∷ []) (is_suspect p g s args value)
+  next i = first_passing (size_of g) more (prefix ++ get_or items i 0 ∷ []) (is_suspect p g s args value)
 
   abbrev all : Option (List ℕ)
-  all = first_passing (size_of g) (length args - length front) front (is_suspect p g s args value)
+  all = first_passing (size_of g) (length args - length prefix) prefix (is_suspect p g s args value)
 
-  one_more : length args - length front ≡ suc more
+  one_more : length args - length prefix ≡ suc more
   one_more = omega arith
 
-  at_next : (i : ℕ) (o : Option (List ℕ)) (long : List ℕ) → long ≡ front ++ get_or items i 0 ∷ []
+  at_next : (i : ℕ) (o : Option (List ℕ)) (long : List ℕ) → long ≡ prefix ++ get_or items i 0 ∷ []
       → o ≡ first_passing (size_of g) (length args - length long) long (is_suspect p g s args value) → o ≡ next i
   at_next i o long e h =
-      let len : length (front ++ get_or items i 0 ∷ []) ≡ length front + 1 = length-append front (get_or items i 0 ∷ []) in
+      let len : length (prefix ++ get_or items i 0 ∷ []) ≡ length prefix + 1 = length-append prefix (get_or items i 0 ∷ []) in
       rw (e, len) at h
 
   pub search-ended : ((i : ℕ) → i < length items → next i ≡ None) → None ≡ all
-  search-ended none = sym (rw one_more (search-none p g s args value front items more short nodes none))
+  search-ended none = sym (rw one_more (search-none p g s args value prefix items more short nodes none))
 
-  pub search-found : (j : ℕ) (o : Option (List ℕ)) (long : List ℕ) → j < length items → ((i : ℕ) → i < j → next i ≡ None) → long ≡ front ++ get_or items j 0 ∷ []
+  pub search-found : (j : ℕ) (o : Option (List ℕ)) (long : List ℕ) → j < length items → ((i : ℕ) → i < j → next i ≡ None) → long ≡ prefix ++ get_or items j 0 ∷ []
       → o ≡ first_passing (size_of g) (length args - length long) long (is_suspect p g s args value) → is_some o ≡ true → o ≡ all
   search-found j None long l none e h t = absurd (true≢false (sym t))
   search-found j (Some u) long l none e h t =
-      sym (rw one_more (search-here p g s args value front items more short nodes j u l none (sym (at_next j (Some u) long e h))))
+      sym (rw one_more (search-here p g s args value prefix items more short nodes j u l none (sym (at_next j (Some u) long e h))))
 
-  pub search-next : (j : ℕ) (o : Option (List ℕ)) (long : List ℕ) → ((i : ℕ) → i < j → next i ≡ None) → long ≡ front ++ get_or items j 0 ∷ []
+  pub search-next : (j : ℕ) (o : Option (List ℕ)) (long : List ℕ) → ((i : ℕ) → i < j → next i ≡ None) → long ≡ prefix ++ get_or items j 0 ∷ []
       → o ≡ first_passing (size_of g) (length args - length long) long (is_suspect p g s args value) → is_some o ≡ false
       → (i : ℕ) → i < j + 1 → next i ≡ None
   search-next j o long none e h f i l = elim (cases_order i j) [
@@ -237,13 +237,13 @@ module _ (p : Problem) (g : Graph) (s : Symbol) (args : List (Option ℕ)) (valu
   ]
 
 -- the search has come to a whole tuple
-pub search-leaf : (p : Problem) (g : Graph) (s : Symbol) (args : List (Option ℕ)) (value : Truth) (front : List ℕ) (found : Bool) → length front ≡ length args
-    → match_each (take (length front) args) (map (origin_of g) front) ≡ true → found ≡ (breaks value (holds p g s front) && is_broken p g s front)
-    → first_passing (size_of g) (length args - length front) front (is_suspect p g s args value) ≡ cond found (Some front) None
-search-leaf p g s args value front found l h e =
-    let none : length args - length front ≡ 0 = omega arith in
-    let whole : take (length front) args ≡ args = take_all (length front) args (omega arith) in
-    let m : match_each args (map (origin_of g) front) ≡ true = rw whole at h in
+pub search-leaf : (p : Problem) (g : Graph) (s : Symbol) (args : List (Option ℕ)) (value : Truth) (prefix : List ℕ) (found : Bool) → length prefix ≡ length args
+    → match_each (take (length prefix) args) (map (origin_of g) prefix) ≡ true → found ≡ (breaks value (holds p g s prefix) && is_broken p g s prefix)
+    → first_passing (size_of g) (length args - length prefix) prefix (is_suspect p g s args value) ≡ cond found (Some prefix) None
+search-leaf p g s args value prefix found l h e =
+    let none : length args - length prefix ≡ 0 = omega arith in
+    let whole : take (length prefix) args ≡ args = take_all (length prefix) args (omega arith) in
+    let m : match_each args (map (origin_of g) prefix) ≡ true = rw whole at h in
     rw (none, m, ← e) refl
 
 pub first_passing-from_start : (n k m : ℕ) (test : List ℕ → Bool) (o : Option (List ℕ)) → k ≡ m → o ≡ first_passing n (k - 0) [] test → o ≡ first_passing n m [] test

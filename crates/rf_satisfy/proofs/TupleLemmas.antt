@@ -1,4 +1,4 @@
--- The first tuple that passes a test, met in a search through numbers place by place.
+-- The first tuple that passes a test, met in a search through numbers one after another.
 use Rattle.std.proofs.Common.{◌≡◌, ℕ, zero, suc, ◌<◌, Bool, true, false, ◌||◌, Option, Some, None, List, [], ◌∷◌, ◌++◌, refl, sym, ap, ◌∙◌, subst, ◌⊎◌, inl, inr, arith, append_assoc}
 use Rattle.std.specs.Option.{option_map, option_or}
 use Rattle.std.specs.Cmp.{ranked, nat_cmp_is, IsTotalOrder}
@@ -23,7 +23,7 @@ IsTuple-tail n m x t h =
     let e = h.len in
     (All-head (λ y. y < n) x t h.nodes, record { len = omega arith; nodes = All-tail (λ y. y < n) x t h.nodes })
 
--- tuples by their first places, and then by the others
+-- tuples by their first numbers, and then by the others
 IsBefore-head : (x y : ℕ) (t u : List ℕ) → x < y → IsBefore (x ∷ t) (y ∷ u)
 IsBefore-head x y t u l = let e : nat_cmp x y ≡ Less = sym (nat_cmp_is x y Less l) in rw e refl
 
@@ -39,58 +39,58 @@ IsBefore-parts x y t u h = go (nat_cmp x y) refl
     go Greater e = absurd (let k : Greater ≡ Less = rw (← e) at h in cc)
 
 -- the search finds nothing where no tuple passes
-pub first_passing-none : (n m : ℕ) (front : List ℕ) (test : List ℕ → Bool) → ((u : List ℕ) → IsTuple n m u → test (front ++ u) ≡ false)
-    → first_passing n m front test ≡ None
-first_passing-none n zero front test none =
-    let e : test front ≡ false = sym (ap test (append-nil front)) ∙ none [] record { len = refl; nodes = All-nil (λ x. x < n) } in rw e refl
-first_passing-none n (suc m) front test none = first_below-none n (λ x. first_passing n m (front ++ x ∷ []) test) (λ x l.
-    first_passing-none n m (front ++ x ∷ []) test (λ u h. ap test (append_assoc front (x ∷ []) u) ∙ none (x ∷ u) (IsTuple-cons n m x u l h)))
+pub first_passing-none : (n m : ℕ) (prefix : List ℕ) (test : List ℕ → Bool) → ((u : List ℕ) → IsTuple n m u → test (prefix ++ u) ≡ false)
+    → first_passing n m prefix test ≡ None
+first_passing-none n zero prefix test none =
+    let e : test prefix ≡ false = sym (ap test (append-nil prefix)) ∙ none [] record { len = refl; nodes = All-nil (λ x. x < n) } in rw e refl
+first_passing-none n (suc m) prefix test none = first_below-none n (λ x. first_passing n m (prefix ++ x ∷ []) test) (λ x l.
+    first_passing-none n m (prefix ++ x ∷ []) test (λ u h. ap test (append_assoc prefix (x ∷ []) u) ∙ none (x ∷ u) (IsTuple-cons n m x u l h)))
 
 -- and a tuple that passes before which none does
-pub first_passing-at : (n m : ℕ) (front t : List ℕ) (test : List ℕ → Bool) → IsTuple n m t → test (front ++ t) ≡ true
-    → ((u : List ℕ) → IsTuple n m u → IsBefore u t → test (front ++ u) ≡ false) → first_passing n m front test ≡ Some (front ++ t)
-first_passing-at n zero front [] test h passes first =
-    let e : test front ≡ true = sym (ap test (append-nil front)) ∙ passes in rw (e, append-nil front) refl
-first_passing-at n zero front (x ∷ t) test h passes first = absurd (let e = h.len in omega arith)
-first_passing-at n (suc m) front [] test h passes first = absurd (let e = h.len in omega arith)
-first_passing-at n (suc m) front (x ∷ t) test h passes first =
+pub first_passing-at : (n m : ℕ) (prefix t : List ℕ) (test : List ℕ → Bool) → IsTuple n m t → test (prefix ++ t) ≡ true
+    → ((u : List ℕ) → IsTuple n m u → IsBefore u t → test (prefix ++ u) ≡ false) → first_passing n m prefix test ≡ Some (prefix ++ t)
+first_passing-at n zero prefix [] test h passes first =
+    let e : test prefix ≡ true = sym (ap test (append-nil prefix)) ∙ passes in rw (e, append-nil prefix) refl
+first_passing-at n zero prefix (x ∷ t) test h passes first = absurd (let e = h.len in omega arith)
+first_passing-at n (suc m) prefix [] test h passes first = absurd (let e = h.len in omega arith)
+first_passing-at n (suc m) prefix (x ∷ t) test h passes first =
     let parts = IsTuple-tail n m x t h in
-    let f = λ (y : ℕ). first_passing n m (front ++ y ∷ []) test in
-    let here : f x ≡ Some (front ++ x ∷ t) = first_passing-at n m (front ++ x ∷ []) t test parts.1 (ap test (append_assoc front (x ∷ []) t) ∙ passes)
-    (λ u hu b. ap test (append_assoc front (x ∷ []) u) ∙ first (x ∷ u) (IsTuple-cons n m x u parts.0 hu) (IsBefore-tail x x u t refl b))
-    ∙ ap Some (append_assoc front (x ∷ []) t) in
+    let f = λ (y : ℕ). first_passing n m (prefix ++ y ∷ []) test in
+    let here : f x ≡ Some (prefix ++ x ∷ t) = first_passing-at n m (prefix ++ x ∷ []) t test parts.1 (ap test (append_assoc prefix (x ∷ []) t) ∙ passes)
+    (λ u hu b. ap test (append_assoc prefix (x ∷ []) u) ∙ first (x ∷ u) (IsTuple-cons n m x u parts.0 hu) (IsBefore-tail x x u t refl b))
+    ∙ ap Some (append_assoc prefix (x ∷ []) t) in
     let lx = parts.0 in
-    first_below-at n f x (front ++ x ∷ t) lx (first_below-none x f (λ y ly. first_passing-none n m (front ++ y ∷ []) test (λ u hu.
-    ap test (append_assoc front (y ∷ []) u) ∙ first (y ∷ u) (IsTuple-cons n m y u (omega arith) hu) (IsBefore-head y x u t ly)))) here
+    first_below-at n f x (prefix ++ x ∷ t) lx (first_below-none x f (λ y ly. first_passing-none n m (prefix ++ y ∷ []) test (λ u hu.
+    ap test (append_assoc prefix (y ∷ []) u) ∙ first (y ∷ u) (IsTuple-cons n m y u (omega arith) hu) (IsBefore-head y x u t ly)))) here
 
 -- where the search finds nothing, no tuple passes
-pub none-from_first_passing : (n m : ℕ) (front : List ℕ) (test : List ℕ → Bool) → first_passing n m front test ≡ None
-    → (u : List ℕ) → IsTuple n m u → test (front ++ u) ≡ false
-none-from_first_passing n zero front test e [] h = elim (cases_Bool (test front)) [
+pub none-from_first_passing : (n m : ℕ) (prefix : List ℕ) (test : List ℕ → Bool) → first_passing n m prefix test ≡ None
+    → (u : List ℕ) → IsTuple n m u → test (prefix ++ u) ≡ false
+none-from_first_passing n zero prefix test e [] h = elim (cases_Bool (test prefix)) [
   | inl t ↦ absurd (None-ne_Some (sym (rw t at e)))
   | inr f ↦ rw append-nil f
 ]
-none-from_first_passing n zero front test e (x ∷ u) h = absurd (let l = h.len in omega arith)
-none-from_first_passing n (suc m) front test e [] h = absurd (let l = h.len in omega arith)
-none-from_first_passing n (suc m) front test e (x ∷ u) h =
+none-from_first_passing n zero prefix test e (x ∷ u) h = absurd (let l = h.len in omega arith)
+none-from_first_passing n (suc m) prefix test e [] h = absurd (let l = h.len in omega arith)
+none-from_first_passing n (suc m) prefix test e (x ∷ u) h =
     let parts = IsTuple-tail n m x u h in
-    sym (ap test (append_assoc front (x ∷ []) u))
-    ∙ none-from_first_passing n m (front ++ x ∷ []) test (each-from_first_below n (λ y. first_passing n m (front ++ y ∷ []) test) e x parts.0) u parts.1
+    sym (ap test (append_assoc prefix (x ∷ []) u))
+    ∙ none-from_first_passing n m (prefix ++ x ∷ []) test (each-from_first_below n (λ y. first_passing n m (prefix ++ y ∷ []) test) e x parts.0) u parts.1
 
--- what is first from a front on
-pub record IsFirstFrom (n m : ℕ) (front : List ℕ) (test : List ℕ → Bool) (t : List ℕ) : Type 0 where
+-- what is first from a prefix on
+pub record IsFirstFrom (n m : ℕ) (prefix : List ℕ) (test : List ℕ → Bool) (t : List ℕ) : Type 0 where
   pub rest : List ℕ
-  pub is : t ≡ front ++ rest
+  pub is : t ≡ prefix ++ rest
   pub tuple : IsTuple n m rest
   pub passes : test t ≡ true
-  pub first : (u : List ℕ) → IsTuple n m u → IsBefore u rest → test (front ++ u) ≡ false
+  pub first : (u : List ℕ) → IsTuple n m u → IsBefore u rest → test (prefix ++ u) ≡ false
 
 -- where it finds a tuple, that is the first that passes
-pub first-from_first_passing : (n m : ℕ) (front t : List ℕ) (test : List ℕ → Bool) → first_passing n m front test ≡ Some t → IsFirstFrom n m front test t
-first-from_first_passing n zero front t test e = elim (cases_Bool (test front)) [
-  | inl h ↦ (let is : front ≡ t = some-same (rw h at e) in record {
+pub first-from_first_passing : (n m : ℕ) (prefix t : List ℕ) (test : List ℕ → Bool) → first_passing n m prefix test ≡ Some t → IsFirstFrom n m prefix test t
+first-from_first_passing n zero prefix t test e = elim (cases_Bool (test prefix)) [
+  | inl h ↦ (let is : prefix ≡ t = some-same (rw h at e) in record {
     rest = [];
-    is = sym is ∙ sym (append-nil front);
+    is = sym is ∙ sym (append-nil prefix);
     tuple = record { len = refl; nodes = All-nil (λ x. x < n) };
     passes = ap test (sym is) ∙ h;
     first = λ u hu b. absurd (none_before u b);
@@ -104,29 +104,29 @@ first-from_first_passing n zero front t test e = elim (cases_Bool (test front)) 
     none_before : (u : List ℕ) → IsBefore u [] → ⊥
     none_before [] b = cc
     none_before (x ∷ u) b = cc
-first-from_first_passing n (suc m) front t test e =
-    let f = λ (y : ℕ). first_passing n m (front ++ y ∷ []) test in
+first-from_first_passing n (suc m) prefix t test e =
+    let f = λ (y : ℕ). first_passing n m (prefix ++ y ∷ []) test in
     let found = IsFirstValue-from_first_below n f t e in
     let x = found.0 in
-    let more = first-from_first_passing n m (front ++ x ∷ []) t test found.2 in
+    let more = first-from_first_passing n m (prefix ++ x ∷ []) t test found.2 in
     let lx = found.1 in
     record {
       rest = x ∷ more.rest;
-      is = more.is ∙ append_assoc front (x ∷ []) more.rest;
+      is = more.is ∙ append_assoc prefix (x ∷ []) more.rest;
       tuple = IsTuple-cons n m x more.rest lx more.tuple;
       passes = more.passes;
       first = λ u hu b. before u hu x more.rest b lx found.3 more.first;
     }
   where
     before : (u : List ℕ) → IsTuple n (suc m) u → (x : ℕ) (rest : List ℕ) → IsBefore u (x ∷ rest) → x < n
-        → ((y : ℕ) → y < x → first_passing n m (front ++ y ∷ []) test ≡ None)
-        → ((w : List ℕ) → IsTuple n m w → IsBefore w rest → test ((front ++ x ∷ []) ++ w) ≡ false) → test (front ++ u) ≡ false
+        → ((y : ℕ) → y < x → first_passing n m (prefix ++ y ∷ []) test ≡ None)
+        → ((w : List ℕ) → IsTuple n m w → IsBefore w rest → test ((prefix ++ x ∷ []) ++ w) ≡ false) → test (prefix ++ u) ≡ false
     before [] h x rest b lx none first = absurd (let l = h.len in omega arith)
     before (y ∷ w) h x rest b lx none first =
         let parts = IsTuple-tail n m y w h in
         elim (IsBefore-parts y x w rest b) [
-          | inl l ↦ sym (ap test (append_assoc front (y ∷ []) w)) ∙ none-from_first_passing n m (front ++ y ∷ []) test (none y l) w parts.1
-          | inr s ↦ subst (λ (z : ℕ). test (front ++ z ∷ w) ≡ false) (sym s.0) (sym (ap test (append_assoc front (x ∷ []) w)) ∙ first w parts.1 s.1)
+          | inl l ↦ sym (ap test (append_assoc prefix (y ∷ []) w)) ∙ none-from_first_passing n m (prefix ++ y ∷ []) test (none y l) w parts.1
+          | inr s ↦ subst (λ (z : ℕ). test (prefix ++ z ∷ w) ≡ false) (sym s.0) (sym (ap test (append_assoc prefix (x ∷ []) w)) ∙ first w parts.1 s.1)
         ]
 
 pub IsFirst-from_first_passing : (n m : ℕ) (test : List ℕ → Bool) (o : Option (List ℕ)) → o ≡ first_passing n m [] test → IsFirst n m test o
@@ -191,11 +191,11 @@ IsFirst-earlier n m p q (Some t) (Some u) ha hb = go (slice_cmp nat_cmp u t) ref
     }
 
 -- the search for the first violation finds the first tuple
-pub first_tuple-is : (n m : ℕ) (front : List ℕ) (test : List ℕ → Bool) (v : List ℕ → Violation)
-    → first_tuple n m front (λ t. when (test t) (v t)) ≡ option_map v (first_passing n m front test)
-first_tuple-is n zero front test v = elim (cases_Bool (test front)) [ inl e ↦ rw e refl | inr e ↦ rw e refl ]
-first_tuple-is n (suc m) front test v =
-    below n (λ x. first_tuple n m (front ++ x ∷ []) (λ t. when (test t) (v t))) (λ x. first_passing n m (front ++ x ∷ []) test) (λ x. first_tuple-is n m (front ++ x ∷ []) test v)
+pub first_tuple-is : (n m : ℕ) (prefix : List ℕ) (test : List ℕ → Bool) (v : List ℕ → Violation)
+    → first_tuple n m prefix (λ t. when (test t) (v t)) ≡ option_map v (first_passing n m prefix test)
+first_tuple-is n zero prefix test v = elim (cases_Bool (test prefix)) [ inl e ↦ rw e refl | inr e ↦ rw e refl ]
+first_tuple-is n (suc m) prefix test v =
+    below n (λ x. first_tuple n m (prefix ++ x ∷ []) (λ t. when (test t) (v t))) (λ x. first_passing n m (prefix ++ x ∷ []) test) (λ x. first_tuple-is n m (prefix ++ x ∷ []) test v)
   where
     or_map : (a b : Option (List ℕ)) → option_or (option_map v a) (option_map v b) ≡ option_map v (option_or a b)
     or_map None b = refl

@@ -11,5 +11,5 @@ abbrev pub contains_node : Problem → ℕ → Edge → Bool
 contains_node p z e = is_containing p e.reference && e.to == z
 
 -- each node is in at most one pair of a reference that contains and a node from which an edge of it leads to this one
-abbrev pub AreHeldOnce : Problem → Graph → Type 0
-AreHeldOnce p g = (z : ℕ) → z < size_of g → container_count p g z ≤ 1
+abbrev pub AreContainedOnce : Problem → Graph → Type 0
+AreContainedOnce p g = (z : ℕ) → z < size_of g → container_count p g z ≤ 1

@@ -1,7 +1,7 @@
 -- What holds at nodes of a graph where calls of predicates go at most so deep.
 use Rattle.std.specs.Prelude.{◌≤◌, ◌<◌, max, ℕ, Bool, false, IsTrue, Option, None, Some, List, map, length, slice_get, slice_index, slice_index_or, Vec}
 use Rattle.std.specs.declared.alloc.Global.{Global}
-use Rattle.rf_problem.specs.Reading.{Places, atom_true, clause_true, literal_true, literals_true, predicate_true, some_places, symbol_true, is_entry}
+use Rattle.rf_problem.specs.Reading.{Assignment, atom_true, clause_true, literal_true, literals_true, predicate_true, some_assignment, symbol_true, is_entry}
 use Rattle.rf_problem.specs.Valid.{fit_literals, fits_literal, is_declared, is_free}
 use Rattle.rf_problem.specs.declared.predicate.Clause.{Clause}
 use Rattle.rf_problem.specs.declared.predicate.Literal.{Literal}
@@ -14,9 +14,9 @@ use Rattle.rf_graph.specs.declared.graph.Graph.{Graph}
 abbrev pub declares : Problem → Symbol → Bool
 declares p symbol = is_declared (length p.classes) (length p.references) (length p.predicates) symbol
 
--- each place is one of n nodes; where there is none, each is 0
+-- each variable stands for one of n nodes, or for 0 where there are none
 abbrev pub AreNodes : ℕ → List ℕ → Type 0
-AreNodes n places = (k : ℕ) → slice_index places k < max 1 n
+AreNodes n assignment = (k : ℕ) → slice_index assignment k < max 1 n
 
 -- whether a symbol holds at a tuple
 abbrev pub symbol_at : Problem → Graph → ℕ → Symbol → List ℕ → Bool
@@ -29,24 +29,24 @@ atom_at p g depth closure symbol t =
     atom_true (predicate_true p.predicates depth) (graph_reading p g) (graph_reading p g) closure symbol t
 
 -- whether the atom of literal i holds for some nodes that its own variables from v on stand for
-abbrev pub some_atom : Problem → Graph → ℕ → List (Option ℕ) → ℕ → Bool → Symbol → List ℕ → ℕ → Places → Bool
-some_atom p g depth entries i closure symbol args v places =
-    some_places (graph_reading p g) (is_entry i) entries v places (λ chosen. atom_at p g depth closure symbol (map chosen args))
+abbrev pub some_atom : Problem → Graph → ℕ → List (Option ℕ) → ℕ → Bool → Symbol → List ℕ → ℕ → Assignment → Bool
+some_atom p g depth entries i closure symbol args v assignment =
+    some_assignment (graph_reading p g) (is_entry i) entries v assignment (λ chosen. atom_at p g depth closure symbol (map chosen args))
 
 -- whether literal i of a clause with these variables holds
-abbrev pub literal_at : Problem → Graph → ℕ → List (Option ℕ) → ℕ → Places → Literal → Bool
-literal_at p g depth variables i places l =
-    literal_true (predicate_true p.predicates depth) (graph_reading p g) (graph_reading p g) variables i places l
+abbrev pub literal_at : Problem → Graph → ℕ → List (Option ℕ) → ℕ → Assignment → Literal → Bool
+literal_at p g depth variables i assignment l =
+    literal_true (predicate_true p.predicates depth) (graph_reading p g) (graph_reading p g) variables i assignment l
 
 -- whether the literals from number i on do
-abbrev pub literals_at : Problem → Graph → ℕ → List (Option ℕ) → ℕ → Places → List Literal → Bool
-literals_at p g depth variables i places ls =
-    literals_true (predicate_true p.predicates depth) (graph_reading p g) (graph_reading p g) variables i places ls
+abbrev pub literals_at : Problem → Graph → ℕ → List (Option ℕ) → ℕ → Assignment → List Literal → Bool
+literals_at p g depth variables i assignment ls =
+    literals_true (predicate_true p.predicates depth) (graph_reading p g) (graph_reading p g) variables i assignment ls
 
 -- whether a clause's literals hold for some nodes that its variables from v on stand for; these are their entries
-abbrev pub some_literals : Problem → Graph → ℕ → Clause → List (Option ℕ) → ℕ → Places → Bool
-some_literals p g depth c entries v places =
-    some_places (graph_reading p g) is_free entries v places (λ chosen. literals_at p g depth c.variables 0 chosen c.literals)
+abbrev pub some_literals : Problem → Graph → ℕ → Clause → List (Option ℕ) → ℕ → Assignment → Bool
+some_literals p g depth c entries v assignment =
+    some_assignment (graph_reading p g) is_free entries v assignment (λ chosen. literals_at p g depth c.variables 0 chosen c.literals)
 
 -- whether a clause holds at a tuple
 abbrev pub clause_at : Problem → Graph → ℕ → ℕ → List ℕ → Clause → Bool

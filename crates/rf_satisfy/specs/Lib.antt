@@ -1,7 +1,8 @@
+-- Private: no public contract cites these, for that of `judge` cites the definitions of rf_graph.
 pub mod Edges
 pub mod EdgeEnds
 pub mod Containers
-pub mod Holders
+pub mod ContainerOf
 pub mod Peeling
 pub mod Least
 pub mod Objects
@@ -9,5 +10,6 @@ pub mod Evaluation
 pub mod NodeLists
 pub mod Pruning
 pub mod Suspects
+pub mod SymbolKinds
 pub mod Tuples
-pub mod Viewed
+pub mod Indexed

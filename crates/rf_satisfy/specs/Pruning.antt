@@ -1,36 +1,36 @@
 -- What fails already when only some variables of a clause have their nodes.
 use Rattle.std.specs.Prelude.{◌≡◌, ◌<◌, ℕ, false, Option, List, slice_index}
-use Rattle.rf_problem.specs.Reading.{Places}
+use Rattle.rf_problem.specs.Reading.{Assignment}
 use Rattle.rf_problem.specs.declared.predicate.Literal.{Literal}
 use Rattle.rf_problem.specs.declared.problem.Problem.{Problem}
 use Rattle.rf_graph.specs.declared.graph.Graph.{Graph}
 use Rattle.rf_satisfy.specs.EdgeEnds.{is_listed}
 use Rattle.rf_satisfy.specs.Evaluation.{literal_at, literals_at}
 
--- the places are the same for the variables before number v
-abbrev pub AgreeBelow : ℕ → Places → Places → Type 0
-AgreeBelow v places others = (k : ℕ) → k < v → others k ≡ places k
+-- the assignments are the same for the variables before number v
+abbrev pub AgreeBelow : ℕ → Assignment → Assignment → Type 0
+AgreeBelow v assignment others = (k : ℕ) → k < v → others k ≡ assignment k
 
--- the literal fails wherever the variables from number v on are placed
+-- the literal fails whatever the variables from number v on stand for
 abbrev pub FailsFrom : Problem → Graph → ℕ → List ℕ → Literal → Type 0
-FailsFrom p g v places l =
-    (depth i : ℕ) (variables : List (Option ℕ)) (others : Places) → AgreeBelow v (slice_index places) others
+FailsFrom p g v assignment l =
+    (depth i : ℕ) (variables : List (Option ℕ)) (others : Assignment) → AgreeBelow v (slice_index assignment) others
     → literal_at p g depth variables i others l ≡ false
 
--- the literals fail together wherever they are placed
+-- the literals fail together whatever they stand for
 abbrev pub FailTogether : Problem → Graph → ℕ → List ℕ → List Literal → Type 0
-FailTogether p g v places ls =
-    (depth i : ℕ) (variables : List (Option ℕ)) (others : Places) → AgreeBelow v (slice_index places) others
+FailTogether p g v assignment ls =
+    (depth i : ℕ) (variables : List (Option ℕ)) (others : Assignment) → AgreeBelow v (slice_index assignment) others
     → literals_at p g depth variables i others ls ≡ false
 
--- the literal fails wherever variable v is none of these nodes and the variables behind it are placed anyhow
+-- the literal fails wherever variable v is none of these nodes, whatever the variables after it stand for
 abbrev pub FailsElsewhere : Problem → Graph → ℕ → List ℕ → List ℕ → Literal → Type 0
-FailsElsewhere p g v places nodes l =
-    (depth i : ℕ) (variables : List (Option ℕ)) (others : Places) → AgreeBelow v (slice_index places) others
+FailsElsewhere p g v assignment nodes l =
+    (depth i : ℕ) (variables : List (Option ℕ)) (others : Assignment) → AgreeBelow v (slice_index assignment) others
     → is_listed nodes (others v) ≡ false → literal_at p g depth variables i others l ≡ false
 
 -- the literals fail together wherever variable v is none of these nodes
 abbrev pub FailElsewhere : Problem → Graph → ℕ → List ℕ → List ℕ → List Literal → Type 0
-FailElsewhere p g v places nodes ls =
-    (depth i : ℕ) (variables : List (Option ℕ)) (others : Places) → AgreeBelow v (slice_index places) others
+FailElsewhere p g v assignment nodes ls =
+    (depth i : ℕ) (variables : List (Option ℕ)) (others : Assignment) → AgreeBelow v (slice_index assignment) others
     → is_listed nodes (others v) ≡ false → literals_at p g depth variables i others ls ≡ false

@@ -11,7 +11,7 @@ pub record IsTuple (n m : ℕ) (t : List ℕ) : Type 0 where
   pub len : length t ≡ m
   pub nodes : All (λ x. x < n) t
 
--- tuple t comes before tuple u, place by place
+-- tuple t comes before tuple u, number by number
 abbrev pub IsBefore : List ℕ → List ℕ → Type 0
 IsBefore t u = slice_cmp nat_cmp t u ≡ Less
 

@@ -1,4 +1,4 @@
-//! The first tuple of nodes at which what is asserted of a symbol isn't kept.
+//! The first tuple of nodes at which what is asserted of a symbol isn't satisfied.
 //!
 //! A tuple is tried only where an assertion asks for it: at the nodes whose origins match its
 //! arguments, and of an error predicate at all nodes.
@@ -6,7 +6,6 @@
 ghost use Rattle.std.specs.Prelude.{◌≡◌, ◌-◌, ◌<◌, ◌≤◌, ℕ, All, IfOk, IsTrue, not, true, false, length, map, take, [], ◌&&◌};
 ghost use Rattle.std.specs.List.{list_any};
 ghost use Rattle.std.specs.Option.{ForSome, is_some};
-ghost use Rattle.rf_finite.specs.Range.{first_below};
 ghost use Rattle.rf_values.specs.declared.truth.Truth.TheVariants.{False};
 ghost use Rattle.rf_problem.specs.Asserted.{asserted, is_error, match_each, matches};
 ghost use Rattle.rf_problem.specs.Parts.{arity_of, same_symbol};
@@ -14,15 +13,16 @@ ghost use Rattle.rf_graph.specs.Evaluate.{holds};
 ghost use Rattle.rf_graph.specs.First.{breaks, first_asserted, first_broken};
 ghost use Rattle.rf_graph.specs.Graph.{origin_of, size_of};
 ghost use Rattle.rf_satisfy.specs.Evaluation.{declares};
+ghost use Rattle.rf_satisfy.specs.SymbolKinds.{count_of, first_of_kind, symbol_of};
 ghost use Rattle.rf_satisfy.specs.Suspects.{is_broken, is_error_at, is_suspect, is_suspect_by};
 ghost use Rattle.rf_satisfy.specs.Tuples.{ArePassing, IsFirst, first_passing};
 
+use crate::graph_index::GraphIndex;
 use crate::suspect_edges::first_suspect_edge;
 use crate::suspects::first_from;
 use crate::tuples::earlier;
-use crate::view::View;
 use rf_graph::Violation;
-use rf_problem::{Assertion, Symbol};
+use rf_problem::{Assertion, Problem, Symbol};
 use rf_values::{Truth, Tuple};
 use std::alloc::{AllocError, Global};
 
@@ -34,69 +34,73 @@ fn is_open(args: &[Option<u64>]) -> bool
 }
 
 /// The first tuple whose origins match the arguments, at which neither this value nor what is
-/// asserted altogether is kept.
+/// asserted altogether is satisfied.
 fn first_suspect(
     alloc: Global,
-    view: &View<'_>,
+    index: &GraphIndex<'_>,
     symbol: Symbol,
     args: &[Option<u64>],
     value: Truth,
 ) -> Result<Option<Tuple>, AllocError>
-    requires declared { IsTrue (declares view.now.problem symbol) }
-    requires arity { length args.now ≡ arity_of view.now.problem.predicates symbol }
+    requires declared { IsTrue (declares index.now.problem symbol) }
+    requires arity { length args.now ≡ arity_of index.now.problem.predicates symbol }
     requires few { length args.now ≤ 4 }
-    requires objects { All (λ arg. ForSome arg (λ o. o < length view.now.problem.objects)) args.now }
+    requires objects { All (λ arg. ForSome arg (λ o. o < length index.now.problem.objects)) args.now }
     ensures { IfOk result (λ t.
-        IsFirst (size_of view.now.graph) (arity_of view.now.problem.predicates symbol)
-        (is_suspect view.now.problem view.now.graph symbol args.now value) t) }
+        IsFirst (size_of index.now.graph) (arity_of index.now.problem.predicates symbol)
+        (is_suspect index.now.problem index.now.graph symbol args.now value) t) }
 {
     match (symbol, value) {
         (_, Truth::Unknown) => Ok(None),
         (Symbol::Reference(r), Truth::False) if is_open(args) => {
-            first_suspect_edge(alloc, view, r, args)
+            first_suspect_edge(alloc, index, r, args)
         }
-        _ => first_from(alloc, view, symbol, args, value, Tuple::of(&[])),
+        _ => first_from(alloc, index, symbol, args, value, Tuple::of(&[])),
     }
 }
 
-fn is_error(view: &View<'_>, symbol: Symbol) -> bool
-    requires declared { IsTrue (declares view.now.problem symbol) }
-    ensures { result ≡ is_error view.now.problem.predicates symbol }
+fn is_error(index: &GraphIndex<'_>, symbol: Symbol) -> bool
+    requires declared { IsTrue (declares index.now.problem symbol) }
+    ensures { result ≡ is_error index.now.problem.predicates symbol }
 {
     match symbol {
-        Symbol::Predicate(q) => view.problem().predicate(q).is_error,
+        Symbol::Predicate(q) => index.problem().predicate(q).is_error,
         Symbol::Class(_) | Symbol::Reference(_) | Symbol::Exists | Symbol::Equals => false,
     }
 }
 
-fn arity(view: &View<'_>, symbol: Symbol) -> usize
-    requires declared { IsTrue (declares view.now.problem symbol) }
-    ensures value { result ≡ arity_of view.now.problem.predicates symbol }
+fn arity(index: &GraphIndex<'_>, symbol: Symbol) -> usize
+    requires declared { IsTrue (declares index.now.problem symbol) }
+    ensures value { result ≡ arity_of index.now.problem.predicates symbol }
     ensures few { result ≤ 4 }
 {
     match symbol {
         Symbol::Class(_) | Symbol::Exists => 1,
         Symbol::Reference(_) | Symbol::Equals => 2,
-        Symbol::Predicate(q) => view.problem().predicate(q).arity as usize,
+        Symbol::Predicate(q) => index.problem().predicate(q).arity as usize,
     }
 }
 
-/// The first tuple at which an error predicate holds, and what is asserted of it isn't kept.
-fn first_error(alloc: Global, view: &View<'_>, symbol: Symbol) -> Result<Option<Tuple>, AllocError>
-    requires declared { IsTrue (declares view.now.problem symbol) }
+/// The first tuple at which an error predicate holds, and what is asserted of it isn't satisfied.
+fn first_error(
+    alloc: Global,
+    index: &GraphIndex<'_>,
+    symbol: Symbol,
+) -> Result<Option<Tuple>, AllocError>
+    requires declared { IsTrue (declares index.now.problem symbol) }
     ensures { IfOk result (λ t.
-        IsFirst (size_of view.now.graph) (arity_of view.now.problem.predicates symbol)
-        (is_error_at view.now.problem view.now.graph symbol) t) }
+        IsFirst (size_of index.now.graph) (arity_of index.now.problem.predicates symbol)
+        (is_error_at index.now.problem index.now.graph symbol) t) }
 {
-    if !is_error(view, symbol) {
+    if !is_error(index, symbol) {
         return Ok(None);
     }
     let any = [None; 4];
     first_suspect(
         alloc,
-        view,
+        index,
         symbol,
-        &any[..arity(view, symbol)],
+        &any[..arity(index, symbol)],
         Truth::False,
     )
 }
@@ -107,18 +111,22 @@ fn speaks_of(assertion: &Assertion, symbol: Symbol) -> bool
     assertion.symbol == symbol
 }
 
-/// The first tuple at which what is asserted of a symbol isn't kept.
-fn broken_tuple(alloc: Global, view: &View<'_>, symbol: Symbol) -> Result<Option<Tuple>, AllocError>
-    requires declared { IsTrue (declares view.now.problem symbol) }
+/// The first tuple at which what is asserted of a symbol isn't satisfied.
+fn broken_tuple(
+    alloc: Global,
+    index: &GraphIndex<'_>,
+    symbol: Symbol,
+) -> Result<Option<Tuple>, AllocError>
+    requires declared { IsTrue (declares index.now.problem symbol) }
     ensures { IfOk result (λ t.
-        IsFirst (size_of view.now.graph) (arity_of view.now.problem.predicates symbol)
-        (is_broken view.now.problem view.now.graph symbol) t) }
+        IsFirst (size_of index.now.graph) (arity_of index.now.problem.predicates symbol)
+        (is_broken index.now.problem index.now.graph symbol) t) }
 {
-    let mut first = first_error(alloc, view, symbol)?;
-    for assertion in view.problem().assertions.iter() {
+    let mut first = first_error(alloc, index, symbol)?;
+    for assertion in index.problem().assertions.iter() {
         if speaks_of(assertion, symbol) {
             let args = assertion.args.as_slice();
-            let other = first_suspect(alloc, view, symbol, args, assertion.value)?;
+            let other = first_suspect(alloc, index, symbol, args, assertion.value)?;
             first = earlier(first, other);
         }
     }
@@ -127,25 +135,58 @@ fn broken_tuple(alloc: Global, view: &View<'_>, symbol: Symbol) -> Result<Option
 
 fn first_broken(
     alloc: Global,
-    view: &View<'_>,
+    index: &GraphIndex<'_>,
     symbol: Symbol,
 ) -> Result<Option<Violation>, AllocError>
-    requires declared { IsTrue (declares view.now.problem symbol) }
-    ensures { IfOk result (λ v. v ≡ first_broken view.now.problem view.now.graph symbol) }
+    requires declared { IsTrue (declares index.now.problem symbol) }
+    ensures { IfOk result (λ v. v ≡ first_broken index.now.problem index.now.graph symbol) }
 {
-    match broken_tuple(alloc, view, symbol)? {
+    match broken_tuple(alloc, index, symbol)? {
         Some(tuple) => Ok(Some(Violation::Asserted(symbol, tuple))),
         None => Ok(None),
     }
 }
 
-fn first_of_classes(alloc: Global, view: &View<'_>) -> Result<Option<Violation>, AllocError>
-    ensures { IfOk result (λ v.
-        v ≡ first_below (length view.now.problem.classes)
-        (λ c. first_broken view.now.problem view.now.graph (Symbol.Class c))) }
+/// The symbols of which something is asserted of nodes, kind by kind.
+#[derive(Clone, Copy)]
+enum SymbolKind {
+    Classes,
+    References,
+    Predicates,
+}
+
+/// How many symbols of a kind the problem declares.
+fn count_of(problem: &Problem, kind: SymbolKind) -> usize
+    ensures { result ≡ count_of problem.now kind }
 {
-    for c in 0..view.problem().classes.len() as u32 {
-        let first = first_broken(alloc, view, Symbol::Class(c))?;
+    match kind {
+        SymbolKind::Classes => problem.classes.len(),
+        SymbolKind::References => problem.references.len(),
+        SymbolKind::Predicates => problem.predicates.len(),
+    }
+}
+
+/// The symbol of a kind that has this number.
+fn symbol_of(kind: SymbolKind, number: u32) -> Symbol
+    ensures { result ≡ symbol_of kind number }
+{
+    match kind {
+        SymbolKind::Classes => Symbol::Class(number),
+        SymbolKind::References => Symbol::Reference(number),
+        SymbolKind::Predicates => Symbol::Predicate(number),
+    }
+}
+
+/// The first tuple at which what is asserted of a symbol of this kind isn't satisfied.
+fn first_of_kind(
+    alloc: Global,
+    index: &GraphIndex<'_>,
+    kind: SymbolKind,
+) -> Result<Option<Violation>, AllocError>
+    ensures { IfOk result (λ v. v ≡ first_of_kind index.now.problem index.now.graph kind) }
+{
+    for number in 0..count_of(index.problem(), kind) as u32 {
+        let first = first_broken(alloc, index, symbol_of(kind, number))?;
         if first.is_some() {
             return Ok(first);
         }
@@ -153,44 +194,21 @@ fn first_of_classes(alloc: Global, view: &View<'_>) -> Result<Option<Violation>,
     Ok(None)
 }
 
-fn first_of_references(alloc: Global, view: &View<'_>) -> Result<Option<Violation>, AllocError>
-    ensures { IfOk result (λ v.
-        v ≡ first_below (length view.now.problem.references)
-        (λ r. first_broken view.now.problem view.now.graph (Symbol.Reference r))) }
-{
-    for r in 0..view.problem().references.len() as u32 {
-        let first = first_broken(alloc, view, Symbol::Reference(r))?;
-        if first.is_some() {
-            return Ok(first);
-        }
-    }
-    Ok(None)
-}
-
-fn first_of_predicates(alloc: Global, view: &View<'_>) -> Result<Option<Violation>, AllocError>
-    ensures { IfOk result (λ v.
-        v ≡ first_below (length view.now.problem.predicates)
-        (λ q. first_broken view.now.problem view.now.graph (Symbol.Predicate q))) }
-{
-    for q in 0..view.problem().predicates.len() as u32 {
-        let first = first_broken(alloc, view, Symbol::Predicate(q))?;
-        if first.is_some() {
-            return Ok(first);
-        }
-    }
-    Ok(None)
-}
-
-/// The first tuple of nodes at which what is asserted of a symbol isn't kept: of the classes, then of
+/// The first tuple of nodes at which what is asserted of a symbol isn't satisfied: of the classes, then of
 /// the references, then of the predicates.
-pub fn first_asserted(alloc: Global, view: &View<'_>) -> Result<Option<Violation>, AllocError>
-    ensures { IfOk result (λ v. v ≡ first_asserted view.now.problem view.now.graph) }
+pub fn first_asserted(
+    alloc: Global,
+    index: &GraphIndex<'_>,
+) -> Result<Option<Violation>, AllocError>
+    ensures { IfOk result (λ v. v ≡ first_asserted index.now.problem index.now.graph) }
 {
-    if let Some(v) = first_of_classes(alloc, view)? {
-        return Ok(Some(v));
+    let class = first_of_kind(alloc, index, SymbolKind::Classes)?;
+    if class.is_some() {
+        return Ok(class);
     }
-    if let Some(v) = first_of_references(alloc, view)? {
-        return Ok(Some(v));
+    let reference = first_of_kind(alloc, index, SymbolKind::References)?;
+    if reference.is_some() {
+        return Ok(reference);
     }
-    first_of_predicates(alloc, view)
+    first_of_kind(alloc, index, SymbolKind::Predicates)
 }

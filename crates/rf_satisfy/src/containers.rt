@@ -5,7 +5,7 @@ ghost use Rattle.std.specs.FinSet.{contains};
 ghost use Rattle.rf_graph.specs.First.{first_containers};
 ghost use Rattle.rf_graph.specs.Graph.{Fits, class_of, size_of};
 ghost use Rattle.rf_graph.specs.Violations.{container_count, is_containing};
-ghost use Rattle.rf_satisfy.specs.Containers.{AreHeldOnce, contains_node};
+ghost use Rattle.rf_satisfy.specs.Containers.{AreContainedOnce, contains_node};
 
 use crate::nodes::class_of;
 use crate::tables::zeros;
@@ -40,7 +40,7 @@ fn container_counts(alloc: Global, problem: &Problem, graph: &Graph) -> Result<V
 
 /// Whether a node with this many containers has too many, or none though its class is among those
 /// whose nodes have to be contained.
-fn is_misheld(containers: u64, class: u32, contained: ClassSet) -> bool
+fn is_wrongly_contained(containers: u64, class: u32, contained: ClassSet) -> bool
     ensures { result ≡ (nat_le 2 containers || (containers == 0 && contains contained class)) }
 {
     containers >= 2 || containers == 0 && contained.has(class)
@@ -55,12 +55,12 @@ pub fn first_containers(
 ) -> Result<Option<Violation>, AllocError>
     requires { Fits problem.now graph.now }
     ensures first { IfOk result (λ v. v ≡ first_containers problem.now graph.now) }
-    ensures once { IfOk result (λ v. IfNone v (AreHeldOnce problem.now graph.now)) }
+    ensures once { IfOk result (λ v. IfNone v (AreContainedOnce problem.now graph.now)) }
 {
     let counts = container_counts(alloc, problem, graph)?;
     let contained = problem.contained_classes();
     for node in 0..graph.nodes.len() as u64 {
-        if is_misheld(counts[node as usize], class_of(graph, node), contained) {
+        if is_wrongly_contained(counts[node as usize], class_of(graph, node), contained) {
             return Ok(Some(Violation::Containers(node)));
         }
     }

@@ -16,7 +16,7 @@ pub struct EdgeEnds {
     pub into: BTreeMap<(u32, u64), Vec<u64>>,
 }
 
-/// Puts a node behind the others that are listed for an end.
+/// Puts a node after the others that are listed for an end.
 fn put(
     alloc: Global,
     lists: &mut BTreeMap<(u32, u64), Vec<u64>>,

@@ -3,18 +3,18 @@
 ghost use Rattle.std.specs.Prelude.{◌≡◌, ◌<◌, ◌≤◌, ℕ, suc, Bool, IfOk, IsTrue, length, drop, map, slice_index, slice_index_or, None, false, true, [], ◌∷◌, All};
 ghost use Rattle.std.specs.List.{list_any, list_all};
 ghost use Rattle.rf_problem.specs.Parts.{predicate_at, arity_of};
-ghost use Rattle.rf_problem.specs.Reading.{is_entry, with_place};
+ghost use Rattle.rf_problem.specs.Reading.{is_entry, assign};
 ghost use Rattle.rf_problem.specs.Valid.{is_free};
 ghost use Rattle.rf_graph.specs.Evaluate.{holds};
 ghost use Rattle.rf_finite.specs.Walks.{walk_below};
 ghost use Rattle.rf_graph.specs.Graph.{has_edge, size_of};
 ghost use Rattle.rf_satisfy.specs.Evaluation.{AreNodes, IsSound, IsSoundClause, atom_at, cell_of, clause_at, declares, literal_at, literals_at, some_atom, some_literals, symbol_at};
 
+use crate::assignment::{arguments, assign, node_of, of_tuple};
+use crate::graph_index::GraphIndex;
 use crate::neighbours::neighbours;
-use crate::places::{arguments, of_tuple, place, with_place};
 use crate::pruning::some_fails;
 use crate::steps::{EdgeSteps, TableSteps, mark};
-use crate::view::View;
 use rf_closure::reach;
 use rf_problem::{Clause, Literal, Predicate, Symbol};
 use std::alloc::{AllocError, Global};
@@ -22,36 +22,40 @@ use std::alloc::{AllocError, Global};
 /// Whether a symbol holds at a tuple of nodes.
 pub fn holds(
     alloc: Global,
-    view: &View<'_>,
+    index: &GraphIndex<'_>,
     symbol: Symbol,
     tuple: &[u64],
 ) -> Result<bool, AllocError>
-    requires declared { IsTrue (declares view.now.problem symbol) }
-    requires arity { length tuple.now ≡ arity_of view.now.problem.predicates symbol }
-    requires nodes { All (λ x. x < size_of view.now.graph) tuple.now }
-    ensures { IfOk result (λ b. b ≡ holds view.now.problem view.now.graph symbol tuple.now) }
+    requires declared { IsTrue (declares index.now.problem symbol) }
+    requires arity { length tuple.now ≡ arity_of index.now.problem.predicates symbol }
+    requires nodes { All (λ x. x < size_of index.now.graph) tuple.now }
+    ensures { IfOk result (λ b. b ≡ holds index.now.problem index.now.graph symbol tuple.now) }
 {
-    let depth = view.problem().predicates.len();
-    symbol_holds(alloc, view, depth, symbol, of_tuple(tuple))
+    let depth = index.problem().predicates.len();
+    symbol_holds(alloc, index, depth, symbol, of_tuple(tuple))
 }
 
-/// Whether a symbol holds at these places, where calls go at most `depth` deep.
+/// Whether a symbol holds at these nodes, where calls go at most `depth` deep.
 #[cycle(eval)]
 fn symbol_holds(
     alloc: Global,
-    view: &View<'_>,
+    index: &GraphIndex<'_>,
     depth: usize,
     symbol: Symbol,
-    places: [u64; 8],
+    assignment: [u64; 8],
 ) -> Result<bool, AllocError>
-    requires declared { IsTrue (declares view.now.problem symbol) }
-    requires nodes { AreNodes (size_of view.now.graph) places }
-    ensures { IfOk result (λ b. b ≡ symbol_at view.now.problem view.now.graph depth symbol places) }
+    requires declared { IsTrue (declares index.now.problem symbol) }
+    requires nodes { AreNodes (size_of index.now.graph) assignment }
+    ensures { IfOk result (λ b. b ≡ symbol_at index.now.problem index.now.graph depth symbol assignment) }
 {
     match symbol {
-        Symbol::Class(k) => Ok(view.has_class(k, place(places, 0))),
-        Symbol::Reference(r) => Ok(view.has_edge(r, place(places, 0), place(places, 1))),
-        Symbol::Predicate(q) => predicate_holds(alloc, view, depth, q, places),
+        Symbol::Class(k) => Ok(index.has_class(k, node_of(assignment, 0))),
+        Symbol::Reference(r) => Ok(index.has_edge(
+            r,
+            node_of(assignment, 0),
+            node_of(assignment, 1),
+        )),
+        Symbol::Predicate(q) => predicate_holds(alloc, index, depth, q, assignment),
         Symbol::Exists => Ok(false),
         Symbol::Equals => Ok(false),
     }
@@ -61,27 +65,27 @@ fn symbol_holds(
 #[cycle(eval)]
 fn predicate_holds(
     alloc: Global,
-    view: &View<'_>,
+    index: &GraphIndex<'_>,
     depth: usize,
     q: u32,
-    places: [u64; 8],
+    assignment: [u64; 8],
 ) -> Result<bool, AllocError>
-    requires declared { q < length view.now.problem.predicates }
-    requires nodes { AreNodes (size_of view.now.graph) places }
+    requires declared { q < length index.now.problem.predicates }
+    requires nodes { AreNodes (size_of index.now.graph) assignment }
     ensures { IfOk result (λ b.
-        b ≡ symbol_at view.now.problem view.now.graph depth (Symbol.Predicate q) places) }
+        b ≡ symbol_at index.now.problem index.now.graph depth (Symbol.Predicate q) assignment) }
 {
     if depth == 0 {
         return Ok(false);
     }
-    let predicate = view.problem().predicate(q);
+    let predicate = index.problem().predicate(q);
     some_clause(
         alloc,
-        view,
+        index,
         depth - 1,
         predicate.arity,
         predicate.clauses.as_slice(),
-        places,
+        assignment,
     )
 }
 
@@ -89,19 +93,19 @@ fn predicate_holds(
 #[cycle(eval)]
 fn some_clause(
     alloc: Global,
-    view: &View<'_>,
+    index: &GraphIndex<'_>,
     depth: usize,
     arity: u8,
     clauses: &[Clause],
-    places: [u64; 8],
+    assignment: [u64; 8],
 ) -> Result<bool, AllocError>
-    requires sound { All (IsSoundClause view.now.problem) clauses.now }
-    requires nodes { AreNodes (size_of view.now.graph) places }
+    requires sound { All (IsSoundClause index.now.problem) clauses.now }
+    requires nodes { AreNodes (size_of index.now.graph) assignment }
     ensures { IfOk result (λ b.
-        b ≡ list_any (clause_at view.now.problem view.now.graph depth arity places) clauses.now) }
+        b ≡ list_any (clause_at index.now.problem index.now.graph depth arity assignment) clauses.now) }
 {
     for clause in clauses {
-        if clause_from(alloc, view, depth, clause, arity as usize, places)? {
+        if clause_from(alloc, index, depth, clause, arity as usize, assignment)? {
             return Ok(true);
         }
     }
@@ -112,32 +116,32 @@ fn some_clause(
 #[cycle(eval)]
 fn clause_from(
     alloc: Global,
-    view: &View<'_>,
+    index: &GraphIndex<'_>,
     depth: usize,
     clause: &Clause,
     v: usize,
-    places: [u64; 8],
+    assignment: [u64; 8],
 ) -> Result<bool, AllocError>
-    requires sound { IsSoundClause view.now.problem clause.now }
-    requires nodes { AreNodes (size_of view.now.graph) places }
+    requires sound { IsSoundClause index.now.problem clause.now }
+    requires nodes { AreNodes (size_of index.now.graph) assignment }
     ensures { IfOk result (λ b.
-        b ≡ some_literals view.now.problem view.now.graph depth clause.now
-        (drop v clause.now.variables) v (slice_index places)) }
+        b ≡ some_literals index.now.problem index.now.graph depth clause.now
+        (drop v clause.now.variables) v (slice_index assignment)) }
 {
-    if some_fails(view, clause.literals.as_slice(), v, places) {
+    if some_fails(index, clause.literals.as_slice(), v, assignment) {
         return Ok(false);
     }
     if v >= clause.variables.len() {
-        return all_literals(alloc, view, depth, clause, places);
+        return all_literals(alloc, index, depth, clause, assignment);
     }
     if !is_of_clause(clause.variables.as_slice(), v) {
-        return clause_from(alloc, view, depth, clause, v + 1, places);
+        return clause_from(alloc, index, depth, clause, v + 1, assignment);
     }
-    if let Some(nodes) = neighbours(view, clause.literals.as_slice(), v, places) {
-        return clause_among(alloc, view, depth, clause, v, places, nodes);
+    if let Some(nodes) = neighbours(index, clause.literals.as_slice(), v, assignment) {
+        return clause_among(alloc, index, depth, clause, v, assignment, nodes);
     }
-    for x in 0..view.size() {
-        if clause_from(alloc, view, depth, clause, v + 1, with_place(places, v, x))? {
+    for x in 0..index.size() {
+        if clause_from(alloc, index, depth, clause, v + 1, assign(assignment, v, x))? {
             return Ok(true);
         }
     }
@@ -145,28 +149,35 @@ fn clause_from(
 }
 
 /// Whether the literals of the clause hold for one of these nodes for its variable of number `v`,
-/// and some nodes for those behind it.
+/// and some nodes for those after it.
 #[cycle(eval)]
 fn clause_among(
     alloc: Global,
-    view: &View<'_>,
+    index: &GraphIndex<'_>,
     depth: usize,
     clause: &Clause,
     v: usize,
-    places: [u64; 8],
+    assignment: [u64; 8],
     nodes: &[u64],
 ) -> Result<bool, AllocError>
-    requires sound { IsSoundClause view.now.problem clause.now }
-    requires nodes { AreNodes (size_of view.now.graph) places }
-    requires there { All (λ x. x < size_of view.now.graph) nodes.now }
+    requires sound { IsSoundClause index.now.problem clause.now }
+    requires nodes { AreNodes (size_of index.now.graph) assignment }
+    requires there { All (λ x. x < size_of index.now.graph) nodes.now }
     requires variable { v < length clause.now.variables }
     ensures { IfOk result (λ b.
-        b ≡ list_any (λ x. some_literals view.now.problem view.now.graph depth clause.now
-        (drop (suc v) clause.now.variables) (suc v) (with_place (slice_index places) v x))
+        b ≡ list_any (λ x. some_literals index.now.problem index.now.graph depth clause.now
+        (drop (suc v) clause.now.variables) (suc v) (assign (slice_index assignment) v x))
         nodes.now) }
 {
     for x in nodes {
-        if clause_from(alloc, view, depth, clause, v + 1, with_place(places, v, *x))? {
+        if clause_from(
+            alloc,
+            index,
+            depth,
+            clause,
+            v + 1,
+            assign(assignment, v, *x),
+        )? {
             return Ok(true);
         }
     }
@@ -177,26 +188,26 @@ fn clause_among(
 #[cycle(eval)]
 fn all_literals(
     alloc: Global,
-    view: &View<'_>,
+    index: &GraphIndex<'_>,
     depth: usize,
     clause: &Clause,
-    places: [u64; 8],
+    assignment: [u64; 8],
 ) -> Result<bool, AllocError>
-    requires sound { IsSoundClause view.now.problem clause.now }
-    requires nodes { AreNodes (size_of view.now.graph) places }
+    requires sound { IsSoundClause index.now.problem clause.now }
+    requires nodes { AreNodes (size_of index.now.graph) assignment }
     ensures { IfOk result (λ b.
-        b ≡ literals_at view.now.problem view.now.graph depth clause.now.variables 0
-        (slice_index places) clause.now.literals) }
+        b ≡ literals_at index.now.problem index.now.graph depth clause.now.variables 0
+        (slice_index assignment) clause.now.literals) }
 {
     for (i, literal) in clause.literals.iter().enumerate() {
         if !literal_holds(
             alloc,
-            view,
+            index,
             depth,
             clause.variables.as_slice(),
             i,
             literal,
-            places,
+            assignment,
         )? {
             return Ok(false);
         }
@@ -208,19 +219,19 @@ fn all_literals(
 #[cycle(eval)]
 fn literal_holds(
     alloc: Global,
-    view: &View<'_>,
+    index: &GraphIndex<'_>,
     depth: usize,
     variables: &[Option<u8>],
     i: usize,
     literal: &Literal,
-    places: [u64; 8],
+    assignment: [u64; 8],
 ) -> Result<bool, AllocError>
     requires few { length variables.now ≤ 8 }
-    requires sound { IsSound view.now.problem variables.now i literal.now }
-    requires nodes { AreNodes (size_of view.now.graph) places }
+    requires sound { IsSound index.now.problem variables.now i literal.now }
+    requires nodes { AreNodes (size_of index.now.graph) assignment }
     ensures { IfOk result (λ b.
-        b ≡ literal_at view.now.problem view.now.graph depth variables.now i
-        (slice_index places) literal.now) }
+        b ≡ literal_at index.now.problem index.now.graph depth variables.now i
+        (slice_index assignment) literal.now) }
 {
     match literal {
         Literal::Call {
@@ -232,21 +243,21 @@ fn literal_holds(
             let args = args.as_slice();
             if *negated {
                 let some = atom_from(
-                    alloc, view, depth, variables, i, *closure, *symbol, args, 0, places,
+                    alloc, index, depth, variables, i, *closure, *symbol, args, 0, assignment,
                 )?;
                 return Ok(!some);
             }
             atom_holds(
                 alloc,
-                view,
+                index,
                 depth,
                 *closure,
                 *symbol,
-                arguments(places, args),
+                arguments(assignment, args),
             )
         }
-        Literal::Same(a, b) => Ok(place(places, *a) == place(places, *b)),
-        Literal::Differ(a, b) => Ok(place(places, *a) != place(places, *b)),
+        Literal::Same(a, b) => Ok(node_of(assignment, *a) == node_of(assignment, *b)),
+        Literal::Differ(a, b) => Ok(node_of(assignment, *a) != node_of(assignment, *b)),
     }
 }
 
@@ -255,7 +266,7 @@ fn literal_holds(
 #[cycle(eval)]
 fn atom_from(
     alloc: Global,
-    view: &View<'_>,
+    index: &GraphIndex<'_>,
     depth: usize,
     variables: &[Option<u8>],
     i: usize,
@@ -263,23 +274,30 @@ fn atom_from(
     symbol: Symbol,
     args: &[u8],
     v: usize,
-    places: [u64; 8],
+    assignment: [u64; 8],
 ) -> Result<bool, AllocError>
     requires few { length variables.now ≤ 8 }
-    requires declared { IsTrue (declares view.now.problem symbol) }
+    requires declared { IsTrue (declares index.now.problem symbol) }
     requires few_args { length args.now ≤ 8 }
-    requires nodes { AreNodes (size_of view.now.graph) places }
+    requires nodes { AreNodes (size_of index.now.graph) assignment }
     ensures { IfOk result (λ b.
-        b ≡ some_atom view.now.problem view.now.graph depth
-        (drop v variables.now) i closure symbol args.now v (slice_index places)) }
+        b ≡ some_atom index.now.problem index.now.graph depth
+        (drop v variables.now) i closure symbol args.now v (slice_index assignment)) }
 {
     if v >= variables.len() {
-        return atom_holds(alloc, view, depth, closure, symbol, arguments(places, args));
+        return atom_holds(
+            alloc,
+            index,
+            depth,
+            closure,
+            symbol,
+            arguments(assignment, args),
+        );
     }
     if !is_of_literal(variables, v, i) {
         return atom_from(
             alloc,
-            view,
+            index,
             depth,
             variables,
             i,
@@ -287,14 +305,14 @@ fn atom_from(
             symbol,
             args,
             v + 1,
-            places,
+            assignment,
         );
     }
-    for x in 0..view.size() {
-        let more = with_place(places, v, x);
+    for x in 0..index.size() {
+        let more = assign(assignment, v, x);
         if atom_from(
             alloc,
-            view,
+            index,
             depth,
             variables,
             i,
@@ -330,35 +348,35 @@ fn is_of_literal(variables: &[Option<u8>], v: usize, i: usize) -> bool
 }
 
 /// Whether an atom holds: the symbol does, or, with closure, a walk of one or more of its steps leads
-/// from the first place to the second.
+/// from the first node to the second.
 #[cycle(eval)]
 fn atom_holds(
     alloc: Global,
-    view: &View<'_>,
+    index: &GraphIndex<'_>,
     depth: usize,
     closure: bool,
     symbol: Symbol,
-    places: [u64; 8],
+    assignment: [u64; 8],
 ) -> Result<bool, AllocError>
-    requires declared { IsTrue (declares view.now.problem symbol) }
-    requires nodes { AreNodes (size_of view.now.graph) places }
+    requires declared { IsTrue (declares index.now.problem symbol) }
+    requires nodes { AreNodes (size_of index.now.graph) assignment }
     ensures { IfOk result (λ b.
-        b ≡ atom_at view.now.problem view.now.graph depth closure symbol places) }
+        b ≡ atom_at index.now.problem index.now.graph depth closure symbol assignment) }
 {
     if !closure {
-        return symbol_holds(alloc, view, depth, symbol, places);
+        return symbol_holds(alloc, index, depth, symbol, assignment);
     }
-    let from = place(places, 0);
-    let to = place(places, 1);
-    if view.size() == 0 {
-        return symbol_holds(alloc, view, depth, symbol, of_tuple(&[from, to]));
+    let from = node_of(assignment, 0);
+    let to = node_of(assignment, 1);
+    if index.size() == 0 {
+        return symbol_holds(alloc, index, depth, symbol, of_tuple(&[from, to]));
     }
     match symbol {
-        Symbol::Reference(r) => is_led_to(alloc, view, r, from, to),
+        Symbol::Reference(r) => is_led_to(alloc, index, r, from, to),
         _ => {
             let steps = TableSteps {
-                size: view.size(),
-                rows: table(alloc, view, depth, symbol)?,
+                size: index.size(),
+                rows: table(alloc, index, depth, symbol)?,
             };
             let reached = reach(alloc, &steps, from)?;
             Ok(mark(&reached, to))
@@ -369,18 +387,18 @@ fn atom_holds(
 /// Whether a walk of one or more edges of a reference leads from one node to another.
 fn is_led_to(
     alloc: Global,
-    view: &View<'_>,
+    index: &GraphIndex<'_>,
     reference: u32,
     from: u64,
     to: u64,
 ) -> Result<bool, AllocError>
-    requires from { from < size_of view.now.graph }
-    requires to { to < size_of view.now.graph }
+    requires from { from < size_of index.now.graph }
+    requires to { to < size_of index.now.graph }
     ensures { IfOk result (λ b.
-        b ≡ walk_below (has_edge view.now.graph reference) (λ x. true)
-        (size_of view.now.graph) from to) }
+        b ≡ walk_below (has_edge index.now.graph reference) (λ x. true)
+        (size_of index.now.graph) from to) }
 {
-    let reached = reach(alloc, &EdgeSteps { view, reference }, from)?;
+    let reached = reach(alloc, &EdgeSteps { index, reference }, from)?;
     Ok(mark(&reached, to))
 }
 
@@ -388,20 +406,20 @@ fn is_led_to(
 #[cycle(eval)]
 fn row(
     alloc: Global,
-    view: &View<'_>,
+    index: &GraphIndex<'_>,
     depth: usize,
     symbol: Symbol,
     x: u64,
 ) -> Result<Vec<bool>, AllocError>
-    requires declared { IsTrue (declares view.now.problem symbol) }
-    requires node { x < size_of view.now.graph }
+    requires declared { IsTrue (declares index.now.problem symbol) }
+    requires node { x < size_of index.now.graph }
     ensures { IfOk result (λ row.
-        (y : ℕ) → y < size_of view.now.graph → slice_index_or row.items y false
-        ≡ symbol_at view.now.problem view.now.graph depth symbol (x ∷ y ∷ [])) }
+        (y : ℕ) → y < size_of index.now.graph → slice_index_or row.items y false
+        ≡ symbol_at index.now.problem index.now.graph depth symbol (x ∷ y ∷ [])) }
 {
     let mut marks = Vec::new(alloc);
-    for y in 0..view.size() {
-        marks.push(symbol_holds(alloc, view, depth, symbol, of_tuple(&[x, y]))?)?;
+    for y in 0..index.size() {
+        marks.push(symbol_holds(alloc, index, depth, symbol, of_tuple(&[x, y]))?)?;
     }
     Ok(marks)
 }
@@ -410,19 +428,19 @@ fn row(
 #[cycle(eval)]
 fn table(
     alloc: Global,
-    view: &View<'_>,
+    index: &GraphIndex<'_>,
     depth: usize,
     symbol: Symbol,
 ) -> Result<Vec<Vec<bool>>, AllocError>
-    requires declared { IsTrue (declares view.now.problem symbol) }
+    requires declared { IsTrue (declares index.now.problem symbol) }
     ensures { IfOk result (λ rows.
-        (x y : ℕ) → x < size_of view.now.graph → y < size_of view.now.graph
-        → cell_of rows.items x y ≡ symbol_at view.now.problem view.now.graph depth symbol
+        (x y : ℕ) → x < size_of index.now.graph → y < size_of index.now.graph
+        → cell_of rows.items x y ≡ symbol_at index.now.problem index.now.graph depth symbol
         (x ∷ y ∷ [])) }
 {
     let mut rows = Vec::new(alloc);
-    for x in 0..view.size() {
-        rows.push(row(alloc, view, depth, symbol, x)?)?;
+    for x in 0..index.size() {
+        rows.push(row(alloc, index, depth, symbol, x)?)?;
     }
     Ok(rows)
 }

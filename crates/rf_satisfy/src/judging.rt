@@ -14,31 +14,31 @@ use crate::cycle::first_cycle;
 use crate::degrees::first_degree;
 use crate::edges::EdgeIndex;
 use crate::ends::first_edge;
+use crate::graph_index::GraphIndex;
 use crate::mirrors::first_opposite;
 use crate::nodes::first_class;
 use crate::objects::first_object;
 use crate::scopes::first_scope;
-use crate::view::View;
 use rf_graph::{Graph, Verdict, Violation};
 use rf_problem::{ClassOrder, Problem};
 use std::alloc::{AllocError, Global};
 
 // The first violation that a node or an edge makes by itself.
-fn first_alone(order: &ClassOrder<'_>, index: &EdgeIndex<'_>) -> Option<Violation>
-    requires { Fits order.now.problem.now index.now.graph.now }
-    ensures { result ≡ option_or (first_class order.now.problem.now index.now.graph.now)
-        (option_or (first_edge order.now.problem.now index.now.graph.now)
-        (first_opposite order.now.problem.now index.now.graph.now)) }
+fn first_alone(order: &ClassOrder<'_>, edge_index: &EdgeIndex<'_>) -> Option<Violation>
+    requires { Fits order.now.problem.now edge_index.now.graph.now }
+    ensures { result ≡ option_or (first_class order.now.problem.now edge_index.now.graph.now)
+        (option_or (first_edge order.now.problem.now edge_index.now.graph.now)
+        (first_opposite order.now.problem.now edge_index.now.graph.now)) }
 {
-    let class = first_class(order.problem, index.graph);
+    let class = first_class(order.problem, edge_index.graph);
     if class.is_some() {
         return class;
     }
-    let edge = first_edge(order, index.graph);
+    let edge = first_edge(order, edge_index.graph);
     if edge.is_some() {
         return edge;
     }
-    first_opposite(order.problem, index)
+    first_opposite(order.problem, edge_index)
 }
 
 // The first violation of how many edges nodes have, and of what contains what.
@@ -67,23 +67,23 @@ fn first_of_edges(
 fn first_stated(
     alloc: Global,
     order: &ClassOrder<'_>,
-    index: &EdgeIndex<'_>,
+    edge_index: &EdgeIndex<'_>,
 ) -> Result<Option<Violation>, AllocError>
-    requires { Fits order.now.problem.now index.now.graph.now }
-    ensures { IfOk result (λ v. v ≡ option_or (first_object order.now.problem.now index.now.graph.now)
-        (option_or (first_asserted order.now.problem.now index.now.graph.now)
-        (first_scope order.now.problem.now index.now.graph.now))) }
+    requires { Fits order.now.problem.now edge_index.now.graph.now }
+    ensures { IfOk result (λ v. v ≡ option_or (first_object order.now.problem.now edge_index.now.graph.now)
+        (option_or (first_asserted order.now.problem.now edge_index.now.graph.now)
+        (first_scope order.now.problem.now edge_index.now.graph.now))) }
 {
-    let object = first_object(alloc, order.problem, index.graph)?;
+    let object = first_object(alloc, order.problem, edge_index.graph)?;
     if object.is_some() {
         return Ok(object);
     }
-    let view = View::new(alloc, order, index)?;
-    let asserted = first_asserted(alloc, &view)?;
+    let index = GraphIndex::new(alloc, order, edge_index)?;
+    let asserted = first_asserted(alloc, &index)?;
     if asserted.is_some() {
         return Ok(asserted);
     }
-    Ok(first_scope(order, index.graph))
+    Ok(first_scope(order, edge_index.graph))
 }
 
 fn first_violation(
@@ -95,8 +95,8 @@ fn first_violation(
     ensures { IfOk result (λ v. v ≡ first_violation problem.now graph.now) }
 {
     let order = problem.class_order(alloc)?;
-    let index = EdgeIndex::new(alloc, graph)?;
-    let alone = first_alone(&order, &index);
+    let edge_index = EdgeIndex::new(alloc, graph)?;
+    let alone = first_alone(&order, &edge_index);
     if alone.is_some() {
         return Ok(alone);
     }
@@ -104,7 +104,7 @@ fn first_violation(
     if edges.is_some() {
         return Ok(edges);
     }
-    first_stated(alloc, &order, &index)
+    first_stated(alloc, &order, &edge_index)
 }
 
 /// Whether a graph that fits a problem satisfies it, and else the first of its violations.

@@ -5,6 +5,8 @@
 #![tactic(auto)]
 
 mod asserted;
+mod assignment;
+mod container_of;
 mod containers;
 mod cycle;
 mod degrees;
@@ -12,7 +14,8 @@ mod edge_ends;
 mod edges;
 mod ends;
 mod evaluate;
-mod holders;
+mod found;
+mod graph_index;
 mod judging;
 mod least;
 mod mirrors;
@@ -21,16 +24,12 @@ mod node_lists;
 mod nodes;
 mod objects;
 mod peeling;
-mod places;
 mod pruning;
 mod scopes;
 mod steps;
 mod suspect_edges;
 mod suspects;
 mod tables;
-#[cfg(test)]
-mod tests;
 mod tuples;
-mod view;
 
 pub use judging::judge;

@@ -5,51 +5,51 @@ ghost use Rattle.std.specs.Prelude.{◌<◌, All, IfSome, false};
 ghost use Rattle.rf_graph.specs.Graph.{size_of};
 ghost use Rattle.rf_satisfy.specs.Pruning.{FailElsewhere, FailsElsewhere};
 
-use crate::places::place;
-use crate::view::View;
+use crate::assignment::node_of;
+use crate::graph_index::GraphIndex;
 use rf_problem::{Literal, Symbol};
 
 /// Where one argument of the reference is variable `v` and the other one before it, the nodes at
 /// the other ends of that one's edges.
 fn ends<'v>(
-    view: &'v View<'_>,
+    index: &'v GraphIndex<'_>,
     reference: u32,
     args: &[u8],
     v: usize,
-    places: [u64; 8],
+    assignment: [u64; 8],
 ) -> Option<&'v [u64]>
     ensures elsewhere { IfSome result (λ nodes.
-        FailsElsewhere view.now.problem view.now.graph v places nodes.now
+        FailsElsewhere index.now.problem index.now.graph v assignment nodes.now
         (Literal.Call false false (Symbol.Reference reference) args.now)) }
-    ensures nodes { IfSome result (λ nodes. All (λ x. x < size_of view.now.graph) nodes.now) }
+    ensures nodes { IfSome result (λ nodes. All (λ x. x < size_of index.now.graph) nodes.now) }
 {
     if args.len() != 2 {
         return None;
     }
     if (args[0] as usize) < v && args[1] as usize == v {
-        return Some(view.ends_from(reference, place(places, args[0])));
+        return Some(index.ends_from(reference, node_of(assignment, args[0])));
     }
     if args[0] as usize == v && (args[1] as usize) < v {
-        return Some(view.ends_into(reference, place(places, args[1])));
+        return Some(index.ends_into(reference, node_of(assignment, args[1])));
     }
     None
 }
 
 /// The same where the symbol is a reference.
 fn ends_as_edge<'v>(
-    view: &'v View<'_>,
+    index: &'v GraphIndex<'_>,
     symbol: Symbol,
     args: &[u8],
     v: usize,
-    places: [u64; 8],
+    assignment: [u64; 8],
 ) -> Option<&'v [u64]>
     ensures elsewhere { IfSome result (λ nodes.
-        FailsElsewhere view.now.problem view.now.graph v places nodes.now
+        FailsElsewhere index.now.problem index.now.graph v assignment nodes.now
         (Literal.Call false false symbol args.now)) }
-    ensures nodes { IfSome result (λ nodes. All (λ x. x < size_of view.now.graph) nodes.now) }
+    ensures nodes { IfSome result (λ nodes. All (λ x. x < size_of index.now.graph) nodes.now) }
 {
     match symbol {
-        Symbol::Reference(r) => ends(view, r, args, v, places),
+        Symbol::Reference(r) => ends(index, r, args, v, assignment),
         _ => None,
     }
 }
@@ -57,14 +57,14 @@ fn ends_as_edge<'v>(
 /// The nodes outside of which for variable `v` a literal fails, where it asks for an edge from or
 /// to the node of a variable before `v`.
 fn ends_of<'v>(
-    view: &'v View<'_>,
+    index: &'v GraphIndex<'_>,
     literal: &Literal,
     v: usize,
-    places: [u64; 8],
+    assignment: [u64; 8],
 ) -> Option<&'v [u64]>
     ensures elsewhere { IfSome result (λ nodes.
-        FailsElsewhere view.now.problem view.now.graph v places nodes.now literal.now) }
-    ensures nodes { IfSome result (λ nodes. All (λ x. x < size_of view.now.graph) nodes.now) }
+        FailsElsewhere index.now.problem index.now.graph v assignment nodes.now literal.now) }
+    ensures nodes { IfSome result (λ nodes. All (λ x. x < size_of index.now.graph) nodes.now) }
 {
     match literal {
         Literal::Call {
@@ -76,7 +76,7 @@ fn ends_of<'v>(
             if *negated || *closure {
                 return None;
             }
-            ends_as_edge(view, *symbol, args.as_slice(), v, places)
+            ends_as_edge(index, *symbol, args.as_slice(), v, assignment)
         }
         _ => None,
     }
@@ -85,17 +85,17 @@ fn ends_of<'v>(
 /// The nodes outside of which for variable `v` the literals fail together, by the first of them
 /// that says so by an edge from or to the node of a variable before `v`. None says nothing.
 pub fn neighbours<'v>(
-    view: &'v View<'_>,
+    index: &'v GraphIndex<'_>,
     literals: &[Literal],
     v: usize,
-    places: [u64; 8],
+    assignment: [u64; 8],
 ) -> Option<&'v [u64]>
     ensures elsewhere { IfSome result (λ nodes.
-        FailElsewhere view.now.problem view.now.graph v places nodes.now literals.now) }
-    ensures nodes { IfSome result (λ nodes. All (λ x. x < size_of view.now.graph) nodes.now) }
+        FailElsewhere index.now.problem index.now.graph v assignment nodes.now literals.now) }
+    ensures nodes { IfSome result (λ nodes. All (λ x. x < size_of index.now.graph) nodes.now) }
 {
     for literal in literals {
-        let nodes = ends_of(view, literal, v, places);
+        let nodes = ends_of(index, literal, v, assignment);
         if nodes.is_some() {
             return nodes;
         }

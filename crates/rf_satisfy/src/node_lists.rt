@@ -28,7 +28,7 @@ fn no_rows(alloc: Global, count: usize) -> Result<Vec<Vec<u64>>, AllocError>
     Ok(rows)
 }
 
-/// Puts a node behind the others of its object.
+/// Puts a node after the others of its object.
 fn put(rows: &mut Vec<Vec<u64>>, object: usize, node: u64) -> Result<(), AllocError>
     requires { object < vec_len rows.old }
     ensures len { OnOk result (vec_len rows.new ≡ vec_len rows.old) }

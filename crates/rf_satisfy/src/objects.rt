@@ -1,14 +1,18 @@
 //! Objects and the nodes that come from them.
 
-ghost use Rattle.std.specs.Prelude.{◌≡◌, ◌<◌, ◌&&◌, IfOk, false, length, not, replicate};
-ghost use Rattle.rf_graph.specs.First.{first_object, may_have_class};
+ghost use Rattle.std.specs.Prelude.{◌≡◌, ◌<◌, ◌&&◌, ◌||◌, IfOk, false, length, not, replicate};
+ghost use Rattle.rf_graph.specs.First.{first_object, has_stranger, may_have_class, when};
 ghost use Rattle.rf_graph.specs.Graph.{Fits, size_of};
+ghost use Rattle.rf_graph.specs.Violations.{nodes_from};
+ghost use Rattle.rf_graph.specs.declared.verdict.Violation.TheVariants.{Object};
 ghost use Rattle.rf_problem.specs.Asserted.{admitted};
 ghost use Rattle.rf_values.specs.Count.{contains};
 ghost use Rattle.rf_satisfy.specs.Objects.{CountsNodes, is_native};
 
+use crate::found::when;
 use crate::nodes::{class_of, origin_of};
 use crate::tables::{falses, zeros};
+use rf_finite::{Rule, first_found};
 use rf_graph::{Graph, Violation};
 use rf_problem::{ObjectName, Problem};
 use std::alloc::{AllocError, Global};
@@ -48,11 +52,42 @@ fn count_nodes(problem: &Problem, graph: &Graph, counts: &mut [u64], strange: &m
 }
 
 // Whether an object has as many nodes as it admits, and none of a class that they may not have.
-fn is_kept(problem: &Problem, object: u64, nodes: u64, strange: bool) -> bool
+fn is_satisfied(problem: &Problem, object: u64, nodes: u64, strange: bool) -> bool
     requires { object < length problem.now.objects }
     ensures { result ≡ (contains (admitted problem.now object) nodes && not strange) }
 {
     problem.admitted(object).contains(nodes) && !strange
+}
+
+// The rule that an object has as many nodes as it admits, and none of a class that they may not have.
+#[derive(Drop)]
+struct ObjectRule<'a> {
+    problem: &'a Problem,
+    graph: &'a Graph,
+    counts: &'a [u64],
+    strange: &'a [bool],
+    ghost len: { length counts.now ≡ length problem.now.objects },
+    ghost strange_len: { length strange.now ≡ length problem.now.objects },
+    ghost counted: { CountsNodes problem.now graph.now (size_of graph.now) counts.now strange.now },
+}
+
+impl Rule<Violation> for ObjectRule<'_> {
+    ghost bound = { λ s. length s.problem.now.objects };
+
+    ghost found = { λ s o.
+        when (not (contains (admitted s.problem.now o) (nodes_from s.graph.now o))
+        || has_stranger s.problem.now s.graph.now o) (Object o) };
+
+    fn bound(&self) -> u64 {
+        self.problem.objects.len() as u64
+    }
+
+    fn find(&self, object: u64) -> Option<Violation> {
+        let nodes = self.counts[object as usize];
+        let strange = self.strange[object as usize];
+        let satisfied = is_satisfied(self.problem, object, nodes, strange);
+        when(!satisfied, Violation::Object(object))
+    }
 }
 
 pub fn first_object(
@@ -71,24 +106,10 @@ pub fn first_object(
         counts.as_mut_slice(),
         strange.as_mut_slice(),
     );
-    Ok(first_unkept(problem, graph, counts.as_slice(), strange.as_slice()))
-}
-
-fn first_unkept(
-    problem: &Problem,
-    graph: &Graph,
-    counts: &[u64],
-    strange: &[bool],
-) -> Option<Violation>
-    requires counted { CountsNodes problem.now graph.now (size_of graph.now) counts.now strange.now }
-    requires counts { length counts.now ≡ length problem.now.objects }
-    requires strange { length strange.now ≡ length problem.now.objects }
-    ensures { result ≡ first_object problem.now graph.now }
-{
-    for object in 0..problem.objects.len() {
-        if !is_kept(problem, object as u64, counts[object], strange[object]) {
-            return Some(Violation::Object(object as u64));
-        }
-    }
-    None
+    Ok(first_found(&ObjectRule {
+        problem,
+        graph,
+        counts: &counts,
+        strange: &strange,
+    }))
 }

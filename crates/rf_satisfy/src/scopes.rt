@@ -1,16 +1,19 @@
 //! How many nodes each scope counts.
 
-ghost use Rattle.std.specs.Prelude.{◌≡◌, ◌<◌, length};
+ghost use Rattle.std.specs.Prelude.{◌≡◌, ◌<◌, length, not};
 ghost use Rattle.std.specs.Option.{ForSome};
 ghost use Rattle.rf_finite.specs.Range.{count_below};
-ghost use Rattle.rf_graph.specs.First.{first_scope};
+ghost use Rattle.rf_graph.specs.First.{first_scope, when};
 ghost use Rattle.rf_graph.specs.Graph.{Fits, size_of};
 ghost use Rattle.rf_graph.specs.Violations.{has_scope_class, is_counted};
+ghost use Rattle.rf_graph.specs.declared.verdict.Violation.TheVariants.{Scope};
 ghost use Rattle.rf_problem.specs.Parts.{scope_at};
 ghost use Rattle.rf_values.specs.Count.{contains};
 ghost use Rattle.rf_problem.specs.Valid.{is_named};
 
+use crate::found::when;
 use crate::nodes::{class_of, origin_of};
+use rf_finite::{Rule, first_found};
 use rf_graph::{Graph, Violation};
 use rf_problem::{ClassOrder, ObjectName};
 
@@ -71,14 +74,36 @@ fn is_on_scope(order: &ClassOrder<'_>, graph: &Graph, scope: u32) -> bool
     range.contains(count_nodes(order, graph, scope))
 }
 
+// The rule that a scope counts as many nodes as its range says.
+#[derive(Drop)]
+struct ScopeRule<'a> {
+    order: &'a ClassOrder<'a>,
+    graph: &'a Graph,
+    ghost fits: { Fits order.now.problem.now graph.now },
+}
+
+impl Rule<Violation> for ScopeRule<'_> {
+    ghost bound = { λ s. length s.order.now.problem.now.scopes };
+
+    ghost found = { λ s k.
+        when (not (contains (scope_at s.order.now.problem.now.scopes k).range
+        (count_below (size_of s.graph.now)
+        (is_counted s.order.now.problem.now s.graph.now (scope_at s.order.now.problem.now.scopes k))))) (Scope k) };
+
+    fn bound(&self) -> u64 {
+        self.order.problem.scopes.len() as u64
+    }
+
+    fn find(&self, number: u64) -> Option<Violation> {
+        let scope = number as u32;
+        let in_range = is_on_scope(self.order, self.graph, scope);
+        when(!in_range, Violation::Scope(scope))
+    }
+}
+
 pub fn first_scope(order: &ClassOrder<'_>, graph: &Graph) -> Option<Violation>
     requires { Fits order.now.problem.now graph.now }
     ensures { result ≡ first_scope order.now.problem.now graph.now }
 {
-    for scope in 0..order.problem.scopes.len() as u32 {
-        if !is_on_scope(order, graph, scope) {
-            return Some(Violation::Scope(scope));
-        }
-    }
-    None
+    first_found(&ScopeRule { order, graph })
 }

@@ -4,29 +4,29 @@ ghost use Rattle.std.specs.Prelude.{◌≡◌, ℕ, true, false, slice_index_or}
 ghost use Rattle.rf_graph.specs.Graph.{has_edge, size_of};
 ghost use Rattle.rf_satisfy.specs.Evaluation.{cell_of};
 
-use crate::view::View;
+use crate::graph_index::GraphIndex;
 use rf_closure::Edges;
 
 /// The edges of a reference.
 #[derive(Drop)]
 pub struct EdgeSteps<'a> {
-    pub view: &'a View<'a>,
+    pub index: &'a GraphIndex<'a>,
     pub reference: u32,
 }
 
 impl Edges for EdgeSteps<'_> {
-    ghost size = { λ s. size_of s.view.now.graph };
+    ghost size = { λ s. size_of s.index.now.graph };
 
-    ghost edge = { λ s a b. has_edge s.view.now.graph s.reference a b };
+    ghost edge = { λ s a b. has_edge s.index.now.graph s.reference a b };
 
     ghost through = { λ s a. true };
 
     fn size(&self) -> u64 {
-        self.view.size()
+        self.index.size()
     }
 
     fn edge(&self, a: u64, b: u64) -> bool {
-        self.view.has_edge(self.reference, a, b)
+        self.index.has_edge(self.reference, a, b)
     }
 
     fn through(&self, a: u64) -> bool {

@@ -1,4 +1,4 @@
-//! Tuples of nodes, in the order of their places.
+//! Tuples of nodes, in lexicographic order.
 
 ghost use Rattle.std.specs.Prelude.{◌≡◌, ◌↔◌, ◌<◌, length, ◌++◌, ◌∷◌, [], IsTrue};
 ghost use Rattle.rf_satisfy.specs.Tuples.{IsBefore, earlier};

@@ -66,7 +66,7 @@ least_here k e (f ∷ es) s = (λ from. not_below f.0 e.0 Less s.0 (λ h. cc), l
 
 found_here : (k : List ℕ) (e : Entry) (es : List Entry) (o : Ordering) → key_cmp k e.0 ≡ o → (o ≡ Greater → ⊥) → IsBelowAll e.0 es → IsLeastFrom (e ∷ es) k e
 found_here k e es o is apart s = record {
-  held = Contains-get_or (e ∷ es) 0 e (omega arith);
+  there = Contains-get_or (e ∷ es) 0 e (omega arith);
   from_key = not_below e.0 k o is apart;
   least = All-cons (λ (f : Entry). (IsBelow f.0 k → ⊥) → IsBelow f.0 e.0 → ⊥) e es
       (λ from. not_less e.0 e.0 Equal (key_itself e.0) (λ h. cc))
@@ -76,7 +76,7 @@ found_here k e es o is apart s = record {
 later : (k : List ℕ) (e : Entry) (es : List Entry) → key_cmp k e.0 ≡ Greater → (o : Option Entry) → MatchOption o (All (λ (f : Entry). IsBelow f.0 k) es) (IsLeastFrom es k) → MatchOption o (All (λ (f : Entry). IsBelow f.0 k) (e ∷ es)) (IsLeastFrom (e ∷ es) k)
 later k e es is None all = All-cons (λ (f : Entry). IsBelow f.0 k) e es (less_from_greater k e.0 is) all
 later k e es is (Some f) found = record {
-  held = Contains-append_right (e ∷ []) es f found.held;
+  there = Contains-append_right (e ∷ []) es f found.there;
   from_key = found.from_key;
   least = All-cons (λ (g : Entry). (IsBelow g.0 k → ⊥) → IsBelow g.0 f.0 → ⊥) e es (λ from. absurd (from (less_from_greater k e.0 is))) found.least;
 }

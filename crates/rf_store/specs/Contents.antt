@@ -1,17 +1,17 @@
--- What a store stands for: a current map, and kept versions of it.
+-- What a store stands for: a current map, and saved versions of it.
 use Rattle.std.specs.Prelude.{◌≡◌, ◌≢◌, ℕ, ◌+◌, ◌^◌, ◌≤◌, ◌<◌, List, Some, Contains, All}
 use Rattle.std.specs.declared.cmp.Ordering.TheVariants.{Less}
 use Rattle.rf_store.specs.Entries.{Entry, key_cmp, value_at, IsInOrder}
 
--- a kept map, and how many rows stood at its commit
+-- a saved map, and how many rows stood at its commit
 pub record Version : Type 0 where
   pub entries : List Entry
   pub rows : ℕ
 
--- the current map, the kept versions, oldest first, and the number of rows in the table
+-- the current map, the saved versions, oldest first, and the number of rows in the table
 pub record Contents : Type 0 where
   pub current : List Entry
-  pub kept : List Version
+  pub saved : List Version
   pub rows : ℕ
 
 -- the new map has the value at the key, and at every other key what the old map has
@@ -26,7 +26,7 @@ IsBelow a b = key_cmp a b ≡ Less
 
 -- the entry is one of the map's, not below the key, and no entry that is not below the key is smaller
 pub record IsLeastFrom (entries : List Entry) (key : List ℕ) (e : Entry) : Type 0 where
-  pub held : Contains entries e
+  pub there : Contains entries e
   pub from_key : IsBelow e.0 key → ⊥
   pub least : All (λ f. (IsBelow f.0 key → ⊥) → IsBelow f.0 e.0 → ⊥) entries
 

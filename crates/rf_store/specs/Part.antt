@@ -1,4 +1,5 @@
--- The trees that a table of rows holds, each by its entries and its height.
+-- Private: no public contract cites this.
+-- The trees that a table of rows has, each by its entries and its height.
 use Rattle.std.specs.Prelude.{◌≡◌, ℕ, ◌+◌, ◌≤◌, ◌<◌, max, List, [], ◌∷◌, ◌++◌, length, slice_index_or}
 use Rattle.rf_store.specs.Entries.{Entry}
 

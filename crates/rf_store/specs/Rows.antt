@@ -1,3 +1,4 @@
+-- Private: no public contract cites this.
 -- What the rows of the table stand for, and when they are sound.
 use Rattle.std.specs.Prelude.{◌≡◌, ℕ, ◌+◌, ◌-◌, ◌*◌, ◌^◌, ◌≤◌, ◌<◌, List, [], ◌∷◌, ◌++◌, length, slice_index_or}
 use Rattle.rf_store.specs.Entries.{IsInOrder}

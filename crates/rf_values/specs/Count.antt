@@ -1,4 +1,4 @@
--- How many nodes there may be: a lower end, and an upper end where `None` is no end.
+-- How many nodes there may be: a lower end, and an upper end where `None` means unbounded.
 use Rattle.std.specs.Prelude.{◌≡◌, ◌↔◌, ℕ, ◌+◌, ◌-◌, min, max, Bool, true, false, ◌&&◌, ◌==◌, nat_le, Option, Some, None}
 use Rattle.rf_values.specs.declared.count.Count.{Count}
 

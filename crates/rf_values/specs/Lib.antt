@@ -1,6 +1,8 @@
-pub mod ClassSet
-pub mod Count
+-- what public contracts cite, in the order of reading
 pub mod Truth
+pub mod Count
+pub mod ClassSet
+-- what only the contracts of private functions cite, and lemmas
 pub mod Tuple
-pub mod WordLemmas
 pub mod Words
+pub mod WordLemmas

@@ -1,3 +1,4 @@
+-- Private: no public contract cites this.
 -- A list of at most four numbers in four cells.
 use Rattle.std.specs.Prelude.{◌≡◌, ◌≤◌, ℕ, zero, suc, List, [], ◌∷◌, length, take}
 use Rattle.std.proofs.Common.{arith, length-take}

@@ -1,3 +1,4 @@
+-- Private: no public contract cites this.
 -- What set four words stand for, and that it gives them back, as the model of `ClassSet` asks.
 use Rattle.std.specs.Prelude.{◌≡◌, ℕ, zero, suc, ◌+◌, ◌*◌, ◌/◌, ◌%◌, ◌^◌, ◌<◌, ◌≤◌, Bool, true, false, ◌==◌, ◌&&◌, nat_lt, if◌then◌else◌, List, [], ◌∷◌, slice_index, refl}
 use Rattle.std.specs.Ordering.{nat_cmp}

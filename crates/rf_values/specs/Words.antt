@@ -1,3 +1,4 @@
+-- Private: no public contract cites this.
 -- A set of numbers below 256 in four words of 64 bits, where the bit c % 64 of the word c / 64 is that of c.
 use Rattle.std.specs.Prelude.{◌≡◌, ℕ, zero, suc, ◌+◌, ◌*◌, ◌/◌, ◌%◌, ◌^◌, ◌<◌, Bool, ◌==◌, if◌then◌else◌, List, [], ◌∷◌, length, All, slice_index}
 use Rattle.std.specs.Ordering.{nat_cmp}

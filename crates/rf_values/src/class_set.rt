@@ -122,7 +122,7 @@ impl ClassSet {
         }
     }
 
-    /// Whether there is no class in the set.
+    /// Whether the set is empty.
     pub fn is_empty(self) -> bool
         ensures classes { IsTrue result ↔ (self ≡ set.empty) }
         ensures members { IsTrue result ↔ ((d : ℕ) → set.contains self d ≡ false) }
@@ -136,27 +136,3 @@ pub fn same_members_law()
     ensures members { SameMembersAreSameSet }
     ensures equal { EqualIsSameSet }
 {}
-
-#[cfg(test)]
-mod tests {
-    use super::*;
-
-    #[test]
-    fn keeps_the_classes_at_the_ends_of_words(rt: HostRuntime) {
-        let ends = ClassSet::empty()
-            .adding(0)
-            .adding(63)
-            .adding(64)
-            .adding(255);
-        assert!(rt; ends.has(0) && ends.has(63) && ends.has(64) && ends.has(255));
-        assert!(rt; !ends.has(1) && !ends.has(62) && !ends.has(65) && !ends.has(254));
-        assert!(rt; !ends.has(256) && !ends.has(u32::MAX));
-        let low = ClassSet::empty().adding(0).adding(63);
-        let high = ends.without(low);
-        assert!(rt; !high.has(0) && !high.has(63) && high.has(64) && high.has(255));
-        assert!(rt; ends.both(low).has(63) && !ends.both(low).has(64));
-        assert!(rt; high.either(low) == ends && !high.either(low).has(65));
-        assert!(rt; high.both(low).is_empty() && !high.is_empty());
-        assert!(rt; high == ClassSet::empty().adding(255).adding(64) && high != ends);
-    }
-}

@@ -65,20 +65,3 @@ pub fn count_law()
     ensures single { SingleIsOneToOne }
     ensures less_one { LessOneContainsRest }
 {}
-
-#[cfg(test)]
-mod tests {
-    use super::*;
-
-    fn count(lo: u64, hi: Option<u64>) -> Count {
-        Count { lo, hi }
-    }
-
-    #[test]
-    fn takes_one_off_the_ends(rt: HostRuntime) {
-        assert_eq!(rt; count(0, None).less_one(), count(0, None));
-        assert_eq!(rt; count(0, Some(0)).less_one(), count(0, Some(0)));
-        assert_eq!(rt; count(0, Some(1)).less_one(), count(0, Some(0)));
-        assert_eq!(rt; count(3, None).less_one(), count(2, None));
-    }
-}

@@ -65,19 +65,3 @@ impl Tuple {
         &self.cells[..self.used]
     }
 }
-
-#[cfg(test)]
-mod tests {
-    use super::*;
-
-    #[test]
-    fn holds_as_many_as_it_is_given(rt: HostRuntime) {
-        assert_eq!(rt; Tuple::of(&[]).as_slice().len(), 0);
-        assert_eq!(rt;
-            Tuple::of(&[7, 0, 9, 0]).as_slice(),
-            [7, 0, 9, 0].as_slice()
-        );
-        assert!(rt; Tuple::of(&[7]) == Tuple::of(&[7]));
-        assert!(rt; Tuple::of(&[7]) != Tuple::of(&[7, 0]));
-    }
-}

@@ -1,4 +1,4 @@
--- The loop starts with the start expanded, skips the start or expands the place on top of the stack,
+-- The loop starts with the start expanded, skips the start or expands the vertex on top of the stack,
 -- and ends with an empty stack.
 use Rattle.std.proofs.Common.{◌≡◌, true, false, eqb, [], refl, arith}
 use Rattle.std.proofs.lemmas.Bool.{eq-eqb, ne_eqb}

@@ -1,4 +1,4 @@
--- The loop starts with the start expanded, skips or expands the place on top of the stack, and ends
+-- The loop starts with the start expanded, skips or expands the vertex on top of the stack, and ends
 -- with an empty stack.
 use Rattle.std.proofs.Common.{arith, sym, ◌∙◌, ◌≡◌, false, []}
 use Rattle.std.proofs.lemmas.List.{get_or-replicate, nil_from_length}

@@ -17,7 +17,7 @@ loop-edge-preserved c =
 pub returns : goal.returns
 returns c =
     let p = c.args.problem.now in
-    let front = codes "graph 1\n" ++ joined_lines (map (node_line p) c.args.graph.now.nodes) in
-    let edges = printed_whole (edge_line p) front c.deref-edge-items.result.now c.args.graph.now.edges c.loop-edge.edge-index c.loop-edge.text c.deref-edge-items.ensures
+    let prefix = codes "graph 1\n" ++ joined_lines (map (node_line p) c.args.graph.now.nodes) in
+    let edges = printed_whole (edge_line p) prefix c.deref-edge-items.result.now c.args.graph.now.edges c.loop-edge.edge-index c.loop-edge.text c.deref-edge-items.ensures
     c.loop-edge-test.false c.loop-edge.invariant in
     printed_all p c.args.graph.now c.loop-edge.text _ edges c.in_ok-push_str.ensures.ok

@@ -8,5 +8,5 @@ use Rattle.rf_satisfy.proofs.asserted.broken_tuple.Given as goal
 
 abbrev pub invariant-loop-assertion : goal.invariant-loop-assertion
 invariant-loop-assertion l =
-    IsFirst (size_of l.view.graph) (arity_of l.view.problem.predicates l.symbol)
-    (λ t. is_error_at l.view.problem l.view.graph l.symbol t || list_any (is_suspect_by l.view.problem l.view.graph l.symbol t) (take l.assertion-index l.assertion-items)) l.first
+    IsFirst (size_of l.index.graph) (arity_of l.index.problem.predicates l.symbol)
+    (λ t. is_error_at l.index.problem l.index.graph l.symbol t || list_any (is_suspect_by l.index.problem l.index.graph l.symbol t) (take l.assertion-index l.assertion-items)) l.first

@@ -11,8 +11,8 @@ use Rattle.rf_satisfy.proofs.asserted.first_error.Goals as goal
 
 pub returns : goal.returns
 returns c =
-    let p = c.args.view.now.problem in
-    let g = c.args.view.now.graph in
+    let p = c.args.index.now.problem in
+    let g = c.args.index.now.graph in
     let m = arity_of p.predicates c.args.symbol in
     let few : m ≤ 4 = omega (arith, c.arity.ensures.value, c.arity.ensures.few) in
     let any : ℕ → List (Option ℕ) = λ (k : ℕ). take k (None ∷ None ∷ None ∷ None ∷ []) in

@@ -9,8 +9,8 @@ use Rattle.rf_satisfy.proofs.asserted.first_suspect.Goals as goal
 
 pub returns-in_default : goal.returns-in_default
 returns-in_default c =
-    let p = c.args.view.now.problem in
-    let g = c.args.view.now.graph in
+    let p = c.args.index.now.problem in
+    let g = c.args.index.now.graph in
     let test = is_suspect p g c.args.symbol c.args.args.now c.args.value in
     IfOk-weaker c.first_from.result _ _
     (λ t e. IsFirst-from_first_passing (size_of g) (arity_of p.predicates c.args.symbol) test t

@@ -1,5 +1,5 @@
 use Rattle.std.proofs.Common.{arith, length, sym, ◌∙◌}
-use Rattle.rf_satisfy.proofs.Firsts.{first_below-found}
+use Rattle.rf_satisfy.proofs.SuspectLemmas.{first_below-found}
 use Rattle.rf_satisfy.specs.Edges.{first_degree_of}
 use Rattle.rf_satisfy.proofs.degrees.first_degree.Goals as goal
 

@@ -5,7 +5,7 @@ use Rattle.rf_finite.proofs.Range.{some_below-from_one}
 use Rattle.rf_finite.proofs.Lists.{list_any-here, list_any-next}
 use Rattle.rf_finite.proofs.Walks.{walk_below-same}
 use Rattle.rf_graph.specs.Graph.{size_of}
-use Rattle.rf_satisfy.proofs.EvaluationLemmas.{some_places-at, AreNodes-with_place, AreNodes-arguments, AreNodes-pair, atom_at-empty, atom_at-same, symbol_at-same, predicate_true-deeper, row-more, declared-from_IsSound}
+use Rattle.rf_satisfy.proofs.EvaluationLemmas.{some_assignment-at, AreNodes-assign, AreNodes-arguments, AreNodes-pair, atom_at-empty, atom_at-same, symbol_at-same, predicate_true-deeper, row-more, declared-from_IsSound}
 use Rattle.rf_satisfy.proofs.NeighbourLemmas.{some_below-listed}
 use Rattle.rf_satisfy.proofs.PruningLemmas.{pruned}
 use Rattle.rf_satisfy.specs.Evaluation.{symbol_at}
@@ -13,17 +13,17 @@ use Rattle.rf_satisfy.proofs.evaluate.+eval.Goals as goal
 
 pub atom_from-atom_holds-requires : goal.atom_from-atom_holds-requires
 atom_from-atom_holds-requires t c =
-    (search rules, (c.requires.declared, AreNodes-arguments c.arguments.result c.args.places c.args.args.now _ c.arguments.ensures c.requires.nodes))
+    (search rules, (c.requires.declared, AreNodes-arguments c.arguments.result c.args.assignment c.args.args.now _ c.arguments.ensures c.requires.nodes))
 
 pub atom_from-returns-then-v-variables : goal.atom_from-returns-then-v-variables
 atom_from-returns-then-v-variables t c =
     let none : drop c.args.v c.args.variables.now ≡ [] = drop_all c.args.v c.args.variables.now (omega arith) in
-    let same = atom_at-same c.args.view.now.problem c.args.view.now.graph c.args.depth c.args.closure c.args.symbol c.arguments.result (map (slice_index c.args.places) c.args.args.now) c.arguments.ensures in
+    let same = atom_at-same c.args.index.now.problem c.args.index.now.graph c.args.depth c.args.closure c.args.symbol c.arguments.result (map (slice_index c.args.assignment) c.args.args.now) c.arguments.ensures in
     rw none (rw same at c.atom_holds.ensures)
 
 pub atom_from-atom_from-requires-in-loop-x : goal.atom_from-atom_from-requires-in-loop-x
 atom_from-atom_from-requires-in-loop-x t c =
-    let l : c.loop-x.x < size_of c.args.view.now.graph = omega (arith, c.size-x-end.ensures) in (
+    let l : c.loop-x.x < size_of c.args.index.now.graph = omega (arith, c.size-x-end.ensures) in (
       search rules,
       (
         c.requires.few,
@@ -31,7 +31,7 @@ atom_from-atom_from-requires-in-loop-x t c =
           c.requires.declared,
           (
             c.requires.few_args,
-            AreNodes-with_place c.with_place-more.result c.args.places _ c.args.v c.loop-x.x c.with_place-more.ensures l c.requires.nodes,
+            AreNodes-assign c.assign-more.result c.args.assignment _ c.args.v c.loop-x.x c.assign-more.ensures l c.requires.nodes,
           ),
         ),
       ),
@@ -39,39 +39,39 @@ atom_from-atom_from-requires-in-loop-x t c =
 
 pub atom_from-returns-then-branch : goal.atom_from-returns-then-branch
 atom_from-returns-then-branch t c =
-    let lx : c.loop-x.x < size_of c.args.view.now.graph = omega (arith, c.size-x-end.ensures) in
+    let lx : c.loop-x.x < size_of c.args.index.now.graph = omega (arith, c.size-x-end.ensures) in
     let e = sym c.is_of_literal.ensures ∙ c.if-not-is_of_literal.false in
     let l : c.args.v < length c.args.variables.now = omega arith in
-    let here = sym (rw (add-one, c.with_place-more.ensures) at c.in_ok-atom_from.ensures) ∙ c.if-branch.true in
-    rw (some_places-at, e) (sym (some_below-from_one (size_of c.args.view.now.graph) _ c.loop-x.x lx here))
+    let here = sym (rw (add-one, c.assign-more.ensures) at c.in_ok-atom_from.ensures) ∙ c.if-branch.true in
+    rw (some_assignment-at, e) (sym (some_below-from_one (size_of c.args.index.now.graph) _ c.loop-x.x lx here))
 
 pub atom_holds-symbol_holds-requires-then-size-eq0 : goal.atom_holds-symbol_holds-requires-then-size-eq0
 atom_holds-symbol_holds-requires-then-size-eq0 t c =
-    let n = max 1 (size_of c.args.view.now.graph) in
-    let from = subst (λ (x : ℕ). x < n) (sym c.place-from.ensures) (c.requires.nodes 0) in
-    let to = subst (λ (x : ℕ). x < n) (sym c.place-to.ensures) (c.requires.nodes 1) in
-    (search rules, (c.requires.declared, AreNodes-pair c.of_tuple.result c.place-from.result c.place-to.result _ c.of_tuple.ensures from to))
+    let n = max 1 (size_of c.args.index.now.graph) in
+    let from = subst (λ (x : ℕ). x < n) (sym c.node_of-from.ensures) (c.requires.nodes 0) in
+    let to = subst (λ (x : ℕ). x < n) (sym c.node_of-to.ensures) (c.requires.nodes 1) in
+    (search rules, (c.requires.declared, AreNodes-pair c.of_tuple.result c.node_of-from.result c.node_of-to.result _ c.of_tuple.ensures from to))
 
 pub atom_holds-returns-then-size-eq0 : goal.atom_holds-returns-then-size-eq0
 atom_holds-returns-then-size-eq0 t c =
-    let none : size_of c.args.view.now.graph ≡ 0 = omega (arith, c.size.ensures) in
-    let step = atom_at-empty c.args.view.now.problem c.args.view.now.graph c.args.depth c.args.symbol c.args.places none in
-    let same = symbol_at-same c.args.view.now.problem c.args.view.now.graph c.args.depth c.args.symbol c.of_tuple.result (c.place-from.result ∷ c.place-to.result ∷ []) c.of_tuple.ensures in
-    rw (c.if-not-closure.false, step, ← c.place-from.ensures, ← c.place-to.ensures) (rw same at c.symbol_holds-then-size-eq0.ensures)
+    let none : size_of c.args.index.now.graph ≡ 0 = omega (arith, c.size.ensures) in
+    let step = atom_at-empty c.args.index.now.problem c.args.index.now.graph c.args.depth c.args.symbol c.args.assignment none in
+    let same = symbol_at-same c.args.index.now.problem c.args.index.now.graph c.args.depth c.args.symbol c.of_tuple.result (c.node_of-from.result ∷ c.node_of-to.result ∷ []) c.of_tuple.ensures in
+    rw (c.if-not-closure.false, step, ← c.node_of-from.ensures, ← c.node_of-to.ensures) (rw same at c.symbol_holds-then-size-eq0.ensures)
 
 pub atom_holds-returns-in_ok-reached-in_default : goal.atom_holds-returns-in_ok-reached-in_default
 atom_holds-returns-in_ok-reached-in_default t c =
-    let n = size_of c.args.view.now.graph in
+    let n = size_of c.args.index.now.graph in
     let some : 1 ≤ n = omega (arith, c.size.ensures) in
-    let from : c.place-from.result < n = (let l = subst (λ (x : ℕ). x < max 1 n) (sym c.place-from.ensures) (c.requires.nodes 0) in omega arith) in
-    let to : c.place-to.result < n = (let l = subst (λ (x : ℕ). x < max 1 n) (sym c.place-to.ensures) (c.requires.nodes 1) in omega arith) in
-    rw (c.if-not-closure.false, ← c.place-from.ensures, ← c.place-to.ensures)
-    ((rw c.deref.ensures.value at c.mark.ensures) ∙ ((rw c.size-in_default.ensures at c.in_ok-reached-in_default.ensures.value) c.place-to.result to
-    ∙ walk_below-same _ _ (λ (x : ℕ). true) (λ (x : ℕ). true) n (λ x y lx ly. c.in_ok-table-in_default.ensures x y lx ly) (λ x lx. refl) n c.place-from.result c.place-to.result (omega arith) from to))
+    let from : c.node_of-from.result < n = (let l = subst (λ (x : ℕ). x < max 1 n) (sym c.node_of-from.ensures) (c.requires.nodes 0) in omega arith) in
+    let to : c.node_of-to.result < n = (let l = subst (λ (x : ℕ). x < max 1 n) (sym c.node_of-to.ensures) (c.requires.nodes 1) in omega arith) in
+    rw (c.if-not-closure.false, ← c.node_of-from.ensures, ← c.node_of-to.ensures)
+    ((rw c.deref.ensures.value at c.mark.ensures) ∙ ((rw c.size-in_default.ensures at c.in_ok-reached-in_default.ensures.value) c.node_of-to.result to
+    ∙ walk_below-same _ _ (λ (x : ℕ). true) (λ (x : ℕ). true) n (λ x y lx ly. c.in_ok-table-in_default.ensures x y lx ly) (λ x lx. refl) n c.node_of-from.result c.node_of-to.result (omega arith) from to))
 
 pub clause_from-returns-then-some_fails : goal.clause_from-returns-then-some_fails
 clause_from-returns-then-some_fails t c =
-    pruned c.args.view.now.problem c.args.view.now.graph c.args.depth c.args.clause.now (drop c.args.v c.args.clause.now.variables) c.args.v c.args.places
+    pruned c.args.index.now.problem c.args.index.now.graph c.args.depth c.args.clause.now (drop c.args.v c.args.clause.now.variables) c.args.v c.args.assignment
     (rw c.as_slice.ensures at (c.some_fails.ensures c.if-some_fails.true))
 
 pub clause_from-returns-then-v-len : goal.clause_from-returns-then-v-len
@@ -81,16 +81,16 @@ clause_from-returns-then-v-len t c =
 
 pub clause_from-clause_from-requires-in-loop-x : goal.clause_from-clause_from-requires-in-loop-x
 clause_from-clause_from-requires-in-loop-x t c =
-    let l : c.loop-x.x < size_of c.args.view.now.graph = omega (arith, c.size-x-end.ensures) in
-    (search rules, (c.requires.sound, AreNodes-with_place c.with_place.result c.args.places _ c.args.v c.loop-x.x c.with_place.ensures l c.requires.nodes))
+    let l : c.loop-x.x < size_of c.args.index.now.graph = omega (arith, c.size-x-end.ensures) in
+    (search rules, (c.requires.sound, AreNodes-assign c.assign.result c.args.assignment _ c.args.v c.loop-x.x c.assign.ensures l c.requires.nodes))
 
 pub clause_from-returns-then-branch : goal.clause_from-returns-then-branch
 clause_from-returns-then-branch t c =
-    let lx : c.loop-x.x < size_of c.args.view.now.graph = omega (arith, c.size-x-end.ensures) in
+    let lx : c.loop-x.x < size_of c.args.index.now.graph = omega (arith, c.size-x-end.ensures) in
     let e = sym (rw c.as_slice-2.ensures at c.is_of_clause.ensures) ∙ c.if-not-is_of_clause.false in
     let l : c.args.v < length c.args.clause.now.variables = omega arith in
-    let here = sym (rw (add-one, c.with_place.ensures) at c.in_ok-clause_from.ensures) ∙ c.if-branch.true in
-    rw (some_places-at, e) (sym (some_below-from_one (size_of c.args.view.now.graph) _ c.loop-x.x lx here))
+    let here = sym (rw (add-one, c.assign.ensures) at c.in_ok-clause_from.ensures) ∙ c.if-branch.true in
+    rw (some_assignment-at, e) (sym (some_below-from_one (size_of c.args.index.now.graph) _ c.loop-x.x lx here))
 
 pub clause_from-clause_among-requires : goal.clause_from-clause_among-requires
 clause_from-clause_among-requires t c = (search rules, (c.requires.sound, (c.requires.nodes, (c.in-Some.ensures.nodes, omega arith))))
@@ -100,59 +100,59 @@ clause_from-returns-in-Some t c =
     let e = sym (rw c.as_slice-2.ensures at c.is_of_clause.ensures) ∙ c.if-not-is_of_clause.false in
     let l : c.args.v < length c.args.clause.now.variables = omega arith in
     let elsewhere = rw c.as_slice-3.ensures at c.in-Some.ensures.elsewhere in
-    let listed = some_below-listed c.args.view.now.problem c.args.view.now.graph c.args.depth c.args.clause.now (drop (suc c.args.v) c.args.clause.now.variables) c.args.v c.args.places
+    let listed = some_below-listed c.args.index.now.problem c.args.index.now.graph c.args.depth c.args.clause.now (drop (suc c.args.v) c.args.clause.now.variables) c.args.v c.args.assignment
     c.in-Some.nodes.now elsewhere c.in-Some.ensures.nodes in
-    rw (some_places-at, e, listed) c.clause_among.ensures
+    rw (some_assignment-at, e, listed) c.clause_among.ensures
 
 pub clause_from-returns : goal.clause_from-returns
 clause_from-returns t c =
     let e = sym (rw c.as_slice-2.ensures at c.is_of_clause.ensures) ∙ c.if-not-is_of_clause.false in
     let l : c.args.v < length c.args.clause.now.variables = omega arith in
-    let all : c.loop-x.x ≡ size_of c.args.view.now.graph = omega (arith, c.size-x-end.ensures) in
-    rw (some_places-at, e) (sym (rw all at c.loop-x.invariant))
+    let all : c.loop-x.x ≡ size_of c.args.index.now.graph = omega (arith, c.size-x-end.ensures) in
+    rw (some_assignment-at, e) (sym (rw all at c.loop-x.invariant))
 
 pub clause_among-clause_from-requires : goal.clause_among-clause_from-requires
 clause_among-clause_from-requires t c =
-    let l : get_or c.args.nodes.now c.loop-x.x-index 0 < size_of c.args.view.now.graph = c.requires.there c.loop-x.x-index 0 c.loop-x-test.true in
-    (search rules, (c.requires.sound, AreNodes-with_place c.with_place.result c.args.places _ c.args.v (get_or c.args.nodes.now c.loop-x.x-index 0) c.with_place.ensures l c.requires.nodes))
+    let l : get_or c.args.nodes.now c.loop-x.x-index 0 < size_of c.args.index.now.graph = c.requires.there c.loop-x.x-index 0 c.loop-x-test.true in
+    (search rules, (c.requires.sound, AreNodes-assign c.assign.result c.args.assignment _ c.args.v (get_or c.args.nodes.now c.loop-x.x-index 0) c.assign.ensures l c.requires.nodes))
 
 pub clause_among-returns-then-branch : goal.clause_among-returns-then-branch
 clause_among-returns-then-branch t c =
     list_any-here _ c.args.nodes.now c.loop-x.x-index (get_or c.args.nodes.now c.loop-x.x-index 0) c.loop-x-test.true c.loop-x.invariant
     (get_or_default c.args.nodes.now c.loop-x.x-index 0 (get_or c.args.nodes.now c.loop-x.x-index 0) c.loop-x-test.true)
-    (sym (rw (add-one, c.with_place.ensures) at c.in_ok-clause_from.ensures) ∙ c.if-branch.true)
+    (sym (rw (add-one, c.assign.ensures) at c.in_ok-clause_from.ensures) ∙ c.if-branch.true)
 
 pub clause_among-loop-x-preserved : goal.clause_among-loop-x-preserved
 clause_among-loop-x-preserved t c =
     list_any-next _ c.args.nodes.now c.loop-x.x-index (get_or c.args.nodes.now c.loop-x.x-index 0) c.loop-x-test.true c.loop-x.invariant
     (get_or_default c.args.nodes.now c.loop-x.x-index 0 (get_or c.args.nodes.now c.loop-x.x-index 0) c.loop-x-test.true)
-    (sym (rw (add-one, c.with_place.ensures) at c.in_ok-clause_from.ensures) ∙ c.if-branch.false)
+    (sym (rw (add-one, c.assign.ensures) at c.in_ok-clause_from.ensures) ∙ c.if-branch.false)
 
 pub literal_holds-atom_holds-requires : goal.literal_holds-atom_holds-requires
 literal_holds-atom_holds-requires t c =
-    let declared = (declared-from_IsSound c.args.view.now.problem c.args.variables.now c.args.i c.in-Call.negated c.in-Call.closure c.in-Call.symbol c.in-Call.args (rw c.in-Call.is at c.requires.sound)).0 in
-    (search rules, (declared, AreNodes-arguments c.arguments.result c.args.places c.as_slice-args.result.now _ c.arguments.ensures c.requires.nodes))
+    let declared = (declared-from_IsSound c.args.index.now.problem c.args.variables.now c.args.i c.in-Call.negated c.in-Call.closure c.in-Call.symbol c.in-Call.args (rw c.in-Call.is at c.requires.sound)).0 in
+    (search rules, (declared, AreNodes-arguments c.arguments.result c.args.assignment c.as_slice-args.result.now _ c.arguments.ensures c.requires.nodes))
 
 pub literal_holds-returns-else-negated : goal.literal_holds-returns-else-negated
 literal_holds-returns-else-negated t c =
-    let same = atom_at-same c.args.view.now.problem c.args.view.now.graph c.args.depth c.in-Call.closure c.in-Call.symbol c.arguments.result (map (slice_index c.args.places) c.as_slice-args.result.now) c.arguments.ensures in
+    let same = atom_at-same c.args.index.now.problem c.args.index.now.graph c.args.depth c.in-Call.closure c.in-Call.symbol c.arguments.result (map (slice_index c.args.assignment) c.as_slice-args.result.now) c.arguments.ensures in
     rw (c.in-Call.is, c.if-negated.false) (rw (same, c.as_slice-args.ensures) at c.atom_holds.ensures)
 
 pub predicate_holds-returns : goal.predicate_holds-returns
 predicate_holds-returns t c =
-    let one = predicate_true-deeper c.args.view.now.problem c.args.view.now.graph c.args.depth c.args.q c.args.places (omega arith) in
+    let one = predicate_true-deeper c.args.index.now.problem c.args.index.now.graph c.args.depth c.args.q c.args.assignment (omega arith) in
     let predicate = rw c.problem.ensures at c.predicate-predicate.ensures in
     rw one (rw (c.as_slice.ensures, predicate) at c.some_clause.ensures)
 
 pub row-symbol_holds-requires : goal.row-symbol_holds-requires
 row-symbol_holds-requires t c =
-    let y : c.loop-y.y < size_of c.args.view.now.graph = omega (arith, c.size-y-end.ensures) in
+    let y : c.loop-y.y < size_of c.args.index.now.graph = omega (arith, c.size-y-end.ensures) in
     (search rules, (c.requires.declared, AreNodes-pair c.of_tuple.result c.args.x c.loop-y.y _ c.of_tuple.ensures (omega (arith, c.requires.node)) (omega arith)))
 
 pub row-loop-y-preserved : goal.row-loop-y-preserved
 row-loop-y-preserved t c =
-    let p = c.args.view.now.problem in
-    let g = c.args.view.now.graph in
+    let p = c.args.index.now.problem in
+    let g = c.args.index.now.graph in
     let same = symbol_at-same p g c.args.depth c.args.symbol c.of_tuple.result (c.args.x ∷ c.loop-y.y ∷ []) c.of_tuple.ensures in
     record {
       len = c.in_ok-push.ensures.len ∙ ap (λ (n : ℕ). n + 1) c.loop-y.invariant.len;

@@ -2,7 +2,7 @@ use Rattle.std.proofs.Common.{◌≡◌, ℕ, suc, ◌+◌, ◌*◌, ◌^◌, �
 use Rattle.std.specs.List.{list_any}
 use Rattle.std.specs.Prelude.{slice_index}
 use Rattle.rf_finite.specs.Range.{some_below}
-use Rattle.rf_problem.specs.Reading.{with_place}
+use Rattle.rf_problem.specs.Reading.{assign}
 use Rattle.rf_problem.specs.Valid.{fit_literals}
 use Rattle.rf_graph.specs.Graph.{size_of}
 use Rattle.rf_satisfy.specs.Evaluation.{cell_of, clause_at, literals_at, some_atom, some_literals, symbol_at}
@@ -43,37 +43,37 @@ decreases-some_clause l = l.depth * 2 ^ 66 + 9 + 2 ^ 64 + 2 ^ 65
 
 abbrev pub invariant-clause_from-loop-x : goal.invariant-clause_from-loop-x
 invariant-clause_from-loop-x l =
-    some_below l.x (λ x. some_literals l.view.problem l.view.graph l.depth l.clause (drop (suc l.v) l.clause.variables) (suc l.v) (with_place (slice_index l.places) l.v x)) ≡ false
+    some_below l.x (λ x. some_literals l.index.problem l.index.graph l.depth l.clause (drop (suc l.v) l.clause.variables) (suc l.v) (assign (slice_index l.assignment) l.v x)) ≡ false
 
 abbrev pub invariant-clause_among-loop-x : goal.invariant-clause_among-loop-x
 invariant-clause_among-loop-x l =
-    list_any (λ x. some_literals l.view.problem l.view.graph l.depth l.clause (drop (suc l.v) l.clause.variables) (suc l.v) (with_place (slice_index l.places) l.v x)) (drop l.x-index l.nodes)
-    ≡ list_any (λ x. some_literals l.view.problem l.view.graph l.depth l.clause (drop (suc l.v) l.clause.variables) (suc l.v) (with_place (slice_index l.places) l.v x)) l.nodes
+    list_any (λ x. some_literals l.index.problem l.index.graph l.depth l.clause (drop (suc l.v) l.clause.variables) (suc l.v) (assign (slice_index l.assignment) l.v x)) (drop l.x-index l.nodes)
+    ≡ list_any (λ x. some_literals l.index.problem l.index.graph l.depth l.clause (drop (suc l.v) l.clause.variables) (suc l.v) (assign (slice_index l.assignment) l.v x)) l.nodes
 
 abbrev pub invariant-all_literals-loop-i : goal.invariant-all_literals-loop-i
 invariant-all_literals-loop-i l = record {
-  so_far : literals_at l.view.problem l.view.graph l.depth l.clause.variables l.i (slice_index l.places) (drop l.i l.clause.literals)
-      ≡ literals_at l.view.problem l.view.graph l.depth l.clause.variables 0 (slice_index l.places) l.clause.literals;
-  fit : fit_literals (length l.view.problem.classes) (length l.view.problem.references) l.view.problem.predicates l.clause.variables l.i (drop l.i l.clause.literals) ≡ true;
+  so_far : literals_at l.index.problem l.index.graph l.depth l.clause.variables l.i (slice_index l.assignment) (drop l.i l.clause.literals)
+      ≡ literals_at l.index.problem l.index.graph l.depth l.clause.variables 0 (slice_index l.assignment) l.clause.literals;
+  fit : fit_literals (length l.index.problem.classes) (length l.index.problem.references) l.index.problem.predicates l.clause.variables l.i (drop l.i l.clause.literals) ≡ true;
 }
 
 abbrev pub invariant-atom_from-loop-x : goal.invariant-atom_from-loop-x
 invariant-atom_from-loop-x l =
-    some_below l.x (λ x. some_atom l.view.problem l.view.graph l.depth (drop (suc l.v) l.variables) l.i l.closure l.symbol l.args (suc l.v) (with_place (slice_index l.places) l.v x)) ≡ false
+    some_below l.x (λ x. some_atom l.index.problem l.index.graph l.depth (drop (suc l.v) l.variables) l.i l.closure l.symbol l.args (suc l.v) (assign (slice_index l.assignment) l.v x)) ≡ false
 
 abbrev pub invariant-some_clause-loop-clause : goal.invariant-some_clause-loop-clause
 invariant-some_clause-loop-clause l =
-    list_any (clause_at l.view.problem l.view.graph l.depth l.arity l.places) (drop l.clause-index l.clauses)
-    ≡ list_any (clause_at l.view.problem l.view.graph l.depth l.arity l.places) l.clauses
+    list_any (clause_at l.index.problem l.index.graph l.depth l.arity l.assignment) (drop l.clause-index l.clauses)
+    ≡ list_any (clause_at l.index.problem l.index.graph l.depth l.arity l.assignment) l.clauses
 
 abbrev pub invariant-row-loop-y : goal.invariant-row-loop-y
 invariant-row-loop-y l = record {
   len : vec_len l.marks ≡ l.y;
-  marks : (y : ℕ) → y < l.y → get_or l.marks.items y false ≡ symbol_at l.view.problem l.view.graph l.depth l.symbol (l.x ∷ y ∷ []);
+  marks : (y : ℕ) → y < l.y → get_or l.marks.items y false ≡ symbol_at l.index.problem l.index.graph l.depth l.symbol (l.x ∷ y ∷ []);
 }
 
 abbrev pub invariant-table-loop-x : goal.invariant-table-loop-x
 invariant-table-loop-x l = record {
   len : vec_len l.rows ≡ l.x;
-  cells : (x y : ℕ) → x < l.x → y < size_of l.view.graph → cell_of l.rows.items x y ≡ symbol_at l.view.problem l.view.graph l.depth l.symbol (x ∷ y ∷ []);
+  cells : (x y : ℕ) → x < l.x → y < size_of l.index.graph → cell_of l.rows.items x y ≡ symbol_at l.index.problem l.index.graph l.depth l.symbol (x ∷ y ∷ []);
 }

@@ -3,5 +3,5 @@ use Rattle.rf_satisfy.proofs.neighbours.neighbours.Goals as goal
 
 pub returns-then-is_some-clause-elsewhere : goal.returns-then-is_some-clause-elsewhere
 returns-then-is_some-clause-elsewhere c =
-    FailElsewhere-from_found c.args.view.now.problem c.args.view.now.graph c.args.v c.args.places c.args.literals.now c.loop-literal.literal-index c.literal-item.result
+    FailElsewhere-from_found c.args.index.now.problem c.args.index.now.graph c.args.v c.args.assignment c.args.literals.now c.loop-literal.literal-index c.literal-item.result
     c.loop-literal-test.true c.literal-item.is c.ends_of-nodes.result c.ends_of-nodes.ensures.elsewhere

@@ -3,6 +3,6 @@ use Rattle.rf_satisfy.proofs.peeling.off_cycles.Given as goal
 
 abbrev pub invariant-loop-start : goal.invariant-loop-start
 invariant-loop-start l = record {
-  kept : IsPeeling l.holders l.held.items l.peeled.items;
-  all : AreAllPeeled l.held.items l.peeled.items l.start;
+  peeling : IsPeeling l.containers l.contents.items l.peeled.items;
+  all : AreAllPeeled l.contents.items l.peeled.items l.start;
 }

@@ -5,9 +5,9 @@ use Rattle.rf_satisfy.proofs.peeling.peel.Given as goal
 
 abbrev pub invariant-loop-peeled : goal.invariant-loop-peeled
 invariant-loop-peeled l = record {
-  node : l.z < length l.holders;
-  kept : IsPeeling l.holders l.held l.peeled;
-  others : AreOthersPeeled l.held l.peeled (l.start + 1) l.z;
+  node : l.z < length l.containers;
+  peeling : IsPeeling l.containers l.contents l.peeled;
+  others : AreOthersPeeled l.contents l.peeled (l.start + 1) l.z;
 }
 
 abbrev pub decreases-loop-peeled : goal.decreases-loop-peeled

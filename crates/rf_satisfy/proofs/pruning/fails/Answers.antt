@@ -8,4 +8,4 @@ pub returns-else-closure : goal.returns-else-closure
 returns-else-closure c =
     let e : c.args.literal.now ≡ Call false false c.in-Call.symbol c.as_slice.result.now =
     c.in-Call.is ∙ (λ i. Call (c.if-negated.false i) (c.if-closure.false i) c.in-Call.symbol (sym c.as_slice.ensures i)) in
-    λ h. subst (λ (l : Literal). FailsFrom c.args.view.now.problem c.args.view.now.graph c.args.v c.args.places l) (sym e) (c.fails_as_edge.ensures h)
+    λ h. subst (λ (l : Literal). FailsFrom c.args.index.now.problem c.args.index.now.graph c.args.v c.args.assignment l) (sym e) (c.fails_as_edge.ensures h)

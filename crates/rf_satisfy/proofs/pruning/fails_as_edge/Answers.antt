@@ -6,4 +6,4 @@ use Rattle.rf_satisfy.proofs.pruning.fails_as_edge.Goals as goal
 
 pub returns-in-Reference : goal.returns-in-Reference
 returns-in-Reference c = λ h.
-    subst (λ (s : Symbol). FailsFrom c.args.view.now.problem c.args.view.now.graph c.args.v c.args.places (Call false false s c.args.args.now)) (sym c.in-Reference.is) (c.is_missing.ensures h)
+    subst (λ (s : Symbol). FailsFrom c.args.index.now.problem c.args.index.now.graph c.args.v c.args.assignment (Call false false s c.args.args.now)) (sym c.in-Reference.is) (c.is_missing.ensures h)

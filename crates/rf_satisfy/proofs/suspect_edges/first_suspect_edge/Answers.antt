@@ -10,10 +10,10 @@ loop-edge-preserved c =
     let i = c.loop-edge.edge-index in
     let no_edge : Edge = record { reference = 0; from = 0; to = 0 } in
     rw c.earlier-first.ensures
-    (edges-more c.args.view.now.problem c.args.view.now.graph c.args.reference c.args.args.now items i (get_or items i no_edge)
+    (edges-more c.args.index.now.problem c.args.index.now.graph c.args.reference c.args.args.now items i (get_or items i no_edge)
     c.loop-edge.first c.in_ok-suspect_ends.field-0 c.loop-edge-test.true (get_or_default items i no_edge (get_or items i no_edge) c.loop-edge-test.true)
     c.loop-edge.invariant c.in_ok-suspect_ends.ensures)
 
 pub returns : goal.returns
-returns c = edges-ended c.args.view.now.problem c.args.view.now.graph c.args.reference c.args.args.now c.deref-edge-items.result.now c.loop-edge.edge-index c.loop-edge.first
+returns c = edges-ended c.args.index.now.problem c.args.index.now.graph c.args.reference c.args.args.now c.deref-edge-items.result.now c.loop-edge.edge-index c.loop-edge.first
     (omega arith) (rw c.graph.ensures.value at c.deref-edge-items.ensures) c.loop-edge.invariant

@@ -10,6 +10,6 @@ use Rattle.rf_satisfy.specs.Tuples.{IsFirst}
 use Rattle.rf_satisfy.proofs.suspect_edges.first_suspect_edge.Given as goal
 
 abbrev pub invariant-loop-edge : goal.invariant-loop-edge
-invariant-loop-edge l = IsFirst (size_of l.view.graph) 2 (λ t.
+invariant-loop-edge l = IsFirst (size_of l.index.graph) 2 (λ t.
     list_any (is_edge l.reference (slice_index t 0) (slice_index t 1)) (take l.edge-index l.edge-items)
-    && is_suspect l.view.problem l.view.graph (Reference l.reference) l.args False t) l.first
+    && is_suspect l.index.problem l.index.graph (Reference l.reference) l.args False t) l.first

@@ -8,57 +8,57 @@ use Rattle.rf_satisfy.proofs.SuspectLemmas.{matched-more, search-ended, search-f
 use Rattle.rf_satisfy.proofs.suspects.+search.Goals as goal
 use Rattle.rf_satisfy.proofs.suspects.+search.Goals.{then-found, else-found}
 
-pub returns-then-place-args : goal.returns-then-place-args
-returns-then-place-args t c =
-    let whole : length c.args.front ≡ length c.args.args.now = rw c.as_slice-place.ensures.items at c.if-place-args.true in
-    let leaf = search-leaf c.args.view.now.problem c.args.view.now.graph c.args.symbol c.args.args.now c.args.value c.args.front c.in_ok-found.found whole c.requires.matched
+pub returns-then-position-args : goal.returns-then-position-args
+returns-then-position-args t c =
+    let whole : length c.args.prefix ≡ length c.args.args.now = rw c.as_slice-position.ensures.items at c.if-position-args.true in
+    let leaf = search-leaf c.args.index.now.problem c.args.index.now.graph c.args.symbol c.args.args.now c.args.value c.args.prefix c.in_ok-found.found whole c.requires.matched
     (rw c.as_slice.ensures.items at c.in_ok-found.ensures) in
     elim c.if-found.branch [
-      | then-found w ↦ w.result-is ∙ sym (leaf ∙ ap (λ (b : Bool). cond b (Some c.args.front) None) w.if-found.true)
-      | else-found w ↦ w.result-is ∙ sym (leaf ∙ ap (λ (b : Bool). cond b (Some c.args.front) None) w.if-found.false)
+      | then-found w ↦ w.result-is ∙ sym (leaf ∙ ap (λ (b : Bool). cond b (Some c.args.prefix) None) w.if-found.true)
+      | else-found w ↦ w.result-is ∙ sym (leaf ∙ ap (λ (b : Bool). cond b (Some c.args.prefix) None) w.if-found.false)
     ]
 
 pub first_from-requires : goal.first_from-requires
 first_from-requires t c =
-    let raw : ArePassing (size_of c.args.view.now.graph) (λ x. matches (get_or c.args.args.now (length c.as_slice-place.result.now) None) (origin_of c.args.view.now.graph x)) c.nodes_matching-x-items.result.now = c.nodes_matching-x-items.ensures in
-    let nodes : ArePassing (size_of c.args.view.now.graph) (λ x. matches (get_or c.args.args.now (length c.args.front) None) (origin_of c.args.view.now.graph x)) c.nodes_matching-x-items.result.now =
-    rw c.as_slice-place.ensures.items at raw in
-    let other = rw c.as_slice-place.ensures.items at c.if-place-args.false in
-    let short : length c.args.front < length c.args.args.now = omega (arith, c.requires.short) in
+    let raw : ArePassing (size_of c.args.index.now.graph) (λ x. matches (get_or c.args.args.now (length c.as_slice-position.result.now) None) (origin_of c.args.index.now.graph x)) c.nodes_matching-x-items.result.now = c.nodes_matching-x-items.ensures in
+    let nodes : ArePassing (size_of c.args.index.now.graph) (λ x. matches (get_or c.args.args.now (length c.args.prefix) None) (origin_of c.args.index.now.graph x)) c.nodes_matching-x-items.result.now =
+    rw c.as_slice-position.ensures.items at raw in
+    let other = rw c.as_slice-position.ensures.items at c.if-position-args.false in
+    let short : length c.args.prefix < length c.args.args.now = omega (arith, c.requires.short) in
     let x = get_or c.nodes_matching-x-items.result.now c.loop-x.x-index 0 in
     let node = nodes.only c.loop-x.x-index c.loop-x-test.true in
-    let len : length (c.args.front ++ x ∷ []) ≡ length c.args.front + 1 = length-append c.args.front (x ∷ []) in
-    let longer : length c.longer.result ≡ length c.args.front + 1 = ap length c.longer.ensures ∙ len in
-    let all : All (λ y. y < size_of c.args.view.now.graph) c.longer.result = rw c.longer.ensures (All-push (λ y. y < size_of c.args.view.now.graph) c.args.front x c.requires.nodes node.0) in
-    let matched = matched-more (origin_of c.args.view.now.graph) c.args.args.now c.args.front x short c.requires.matched node.1 in
+    let len : length (c.args.prefix ++ x ∷ []) ≡ length c.args.prefix + 1 = length-append c.args.prefix (x ∷ []) in
+    let longer : length c.longer.result ≡ length c.args.prefix + 1 = ap length c.longer.ensures ∙ len in
+    let all : All (λ y. y < size_of c.args.index.now.graph) c.longer.result = rw c.longer.ensures (All-push (λ y. y < size_of c.args.index.now.graph) c.args.prefix x c.requires.nodes node.0) in
+    let matched = matched-more (origin_of c.args.index.now.graph) c.args.args.now c.args.prefix x short c.requires.matched node.1 in
     (search (rules, longer, short), (c.requires.declared, (c.requires.arity, (c.requires.few, (c.requires.objects, (omega arith, (all, rw c.longer.ensures matched)))))))
 
 pub returns-then-is_some : goal.returns-then-is_some
 returns-then-is_some t c =
-    let raw : ArePassing (size_of c.args.view.now.graph) (λ x. matches (get_or c.args.args.now (length c.as_slice-place.result.now) None) (origin_of c.args.view.now.graph x)) c.nodes_matching-x-items.result.now = c.nodes_matching-x-items.ensures in
-    let nodes : ArePassing (size_of c.args.view.now.graph) (λ x. matches (get_or c.args.args.now (length c.args.front) None) (origin_of c.args.view.now.graph x)) c.nodes_matching-x-items.result.now =
-    rw c.as_slice-place.ensures.items at raw in
-    let other = rw c.as_slice-place.ensures.items at c.if-place-args.false in
-    let short : length c.args.front < length c.args.args.now = omega (arith, c.requires.short) in
-    search-found c.args.view.now.problem c.args.view.now.graph c.args.symbol c.args.args.now c.args.value c.args.front c.nodes_matching-x-items.result.now short nodes
+    let raw : ArePassing (size_of c.args.index.now.graph) (λ x. matches (get_or c.args.args.now (length c.as_slice-position.result.now) None) (origin_of c.args.index.now.graph x)) c.nodes_matching-x-items.result.now = c.nodes_matching-x-items.ensures in
+    let nodes : ArePassing (size_of c.args.index.now.graph) (λ x. matches (get_or c.args.args.now (length c.args.prefix) None) (origin_of c.args.index.now.graph x)) c.nodes_matching-x-items.result.now =
+    rw c.as_slice-position.ensures.items at raw in
+    let other = rw c.as_slice-position.ensures.items at c.if-position-args.false in
+    let short : length c.args.prefix < length c.args.args.now = omega (arith, c.requires.short) in
+    search-found c.args.index.now.problem c.args.index.now.graph c.args.symbol c.args.args.now c.args.value c.args.prefix c.nodes_matching-x-items.result.now short nodes
     c.loop-x.x-index c.in_ok-first.first c.longer.result c.loop-x-test.true c.loop-x.invariant c.longer.ensures c.in_ok-first.ensures (sym c.is_some.ensures ∙ c.if-is_some.true)
 
 pub loop-x-preserved : goal.loop-x-preserved
 loop-x-preserved t c =
-    let raw : ArePassing (size_of c.args.view.now.graph) (λ x. matches (get_or c.args.args.now (length c.as_slice-place.result.now) None) (origin_of c.args.view.now.graph x)) c.nodes_matching-x-items.result.now = c.nodes_matching-x-items.ensures in
-    let nodes : ArePassing (size_of c.args.view.now.graph) (λ x. matches (get_or c.args.args.now (length c.args.front) None) (origin_of c.args.view.now.graph x)) c.nodes_matching-x-items.result.now =
-    rw c.as_slice-place.ensures.items at raw in
-    let other = rw c.as_slice-place.ensures.items at c.if-place-args.false in
-    let short : length c.args.front < length c.args.args.now = omega (arith, c.requires.short) in
-    search-next c.args.view.now.problem c.args.view.now.graph c.args.symbol c.args.args.now c.args.value c.args.front c.nodes_matching-x-items.result.now short nodes
+    let raw : ArePassing (size_of c.args.index.now.graph) (λ x. matches (get_or c.args.args.now (length c.as_slice-position.result.now) None) (origin_of c.args.index.now.graph x)) c.nodes_matching-x-items.result.now = c.nodes_matching-x-items.ensures in
+    let nodes : ArePassing (size_of c.args.index.now.graph) (λ x. matches (get_or c.args.args.now (length c.args.prefix) None) (origin_of c.args.index.now.graph x)) c.nodes_matching-x-items.result.now =
+    rw c.as_slice-position.ensures.items at raw in
+    let other = rw c.as_slice-position.ensures.items at c.if-position-args.false in
+    let short : length c.args.prefix < length c.args.args.now = omega (arith, c.requires.short) in
+    search-next c.args.index.now.problem c.args.index.now.graph c.args.symbol c.args.args.now c.args.value c.args.prefix c.nodes_matching-x-items.result.now short nodes
     c.loop-x.x-index c.in_ok-first.first c.longer.result c.loop-x.invariant c.longer.ensures c.in_ok-first.ensures (sym c.is_some.ensures ∙ c.if-is_some.false)
 
 pub returns : goal.returns
 returns t c =
-    let raw : ArePassing (size_of c.args.view.now.graph) (λ x. matches (get_or c.args.args.now (length c.as_slice-place.result.now) None) (origin_of c.args.view.now.graph x)) c.nodes_matching-x-items.result.now = c.nodes_matching-x-items.ensures in
-    let nodes : ArePassing (size_of c.args.view.now.graph) (λ x. matches (get_or c.args.args.now (length c.args.front) None) (origin_of c.args.view.now.graph x)) c.nodes_matching-x-items.result.now =
-    rw c.as_slice-place.ensures.items at raw in
-    let other = rw c.as_slice-place.ensures.items at c.if-place-args.false in
-    let short : length c.args.front < length c.args.args.now = omega (arith, c.requires.short) in
-    search-ended c.args.view.now.problem c.args.view.now.graph c.args.symbol c.args.args.now c.args.value c.args.front c.nodes_matching-x-items.result.now short nodes
+    let raw : ArePassing (size_of c.args.index.now.graph) (λ x. matches (get_or c.args.args.now (length c.as_slice-position.result.now) None) (origin_of c.args.index.now.graph x)) c.nodes_matching-x-items.result.now = c.nodes_matching-x-items.ensures in
+    let nodes : ArePassing (size_of c.args.index.now.graph) (λ x. matches (get_or c.args.args.now (length c.args.prefix) None) (origin_of c.args.index.now.graph x)) c.nodes_matching-x-items.result.now =
+    rw c.as_slice-position.ensures.items at raw in
+    let other = rw c.as_slice-position.ensures.items at c.if-position-args.false in
+    let short : length c.args.prefix < length c.args.args.now = omega (arith, c.requires.short) in
+    search-ended c.args.index.now.problem c.args.index.now.graph c.args.symbol c.args.args.now c.args.value c.args.prefix c.nodes_matching-x-items.result.now short nodes
     (λ i l. c.loop-x.invariant i (omega arith))

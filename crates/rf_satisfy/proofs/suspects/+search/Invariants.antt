@@ -5,8 +5,8 @@ use Rattle.rf_satisfy.specs.Tuples.{first_passing}
 use Rattle.rf_satisfy.proofs.suspects.+search.Given as goal
 
 abbrev pub decreases-first_from : goal.decreases-first_from
-decreases-first_from l = length l.args.now - length l.front
+decreases-first_from l = length l.args.now - length l.prefix
 
 abbrev pub invariant-loop-x : goal.invariant-loop-x
 invariant-loop-x l = (i : ℕ) → i < l.x-index
-    → first_passing (size_of l.view.graph) (length l.args - (length l.front + 1)) (l.front ++ get_or l.x-items i 0 ∷ []) (is_suspect l.view.problem l.view.graph l.symbol l.args l.value) ≡ None
+    → first_passing (size_of l.index.graph) (length l.args - (length l.prefix + 1)) (l.prefix ++ get_or l.x-items i 0 ∷ []) (is_suspect l.index.problem l.index.graph l.symbol l.args l.value) ≡ None

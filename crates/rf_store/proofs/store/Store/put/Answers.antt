@@ -13,11 +13,11 @@ returns-clause-sets c =
     rw (c.insert-self-inside.ensures.entries, same, ← current) (sets_only c.args.key c.args.value _ c.height-height.ensures.tree.in_order)
 
 -- the table only grows
-pub returns-clause-kept : goal.returns-clause-kept
-returns-clause-kept c =
-    let kept : map (version_of c.self.inside.table.parts) c.self.inside.kept.items ≡ c.args.self.now.kept = ap (λ s. s.kept) c.self.view_is in
+pub returns-clause-saved : goal.returns-clause-saved
+returns-clause-saved c =
+    let saved : map (version_of c.self.inside.table.parts) c.self.inside.saved.items ≡ c.args.self.now.saved = ap (λ s. s.saved) c.self.view_is in
     let more : Extends c.self.inside.table.parts c.insert-self-inside.new.table.parts = rw c.in_ok-reserve.ensures.parts at c.insert-self-inside.ensures.extends in
-    versions_extend c.self.inside.table.parts c.insert-self-inside.new.table.parts c.self.inside.root c.self.inside.kept.items c.self.invariant more ∙ kept
+    versions_extend c.self.inside.table.parts c.insert-self-inside.new.table.parts c.self.inside.root c.self.inside.saved.items c.self.invariant more ∙ saved
 
 -- at most two rows a level, and the tree is no higher than its entries allow
 pub returns-clause-few_rows : goal.returns-clause-few_rows

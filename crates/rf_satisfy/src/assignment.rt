@@ -1,0 +1,49 @@
+//! The nodes that the variables of a clause stand for: a clause has at most eight.
+
+ghost use Rattle.std.specs.Prelude.{◌≡◌, ◌<◌, ◌≤◌, ℕ, length, map, slice_index};
+ghost use Rattle.rf_problem.specs.Reading.{assign};
+ghost use Rattle.rf_satisfy.specs.Evaluation.{AreNodes};
+
+/// The node that variable `v` stands for.
+pub fn node_of(assignment: [u64; 8], v: u8) -> u64
+    ensures { result ≡ slice_index assignment v }
+{
+    match assignment.get(v as usize) {
+        Some(x) => *x,
+        None => 0,
+    }
+}
+
+/// The assignment, but `x` for variable `v`.
+pub fn assign(assignment: [u64; 8], v: usize, x: u64) -> [u64; 8]
+    requires { v < 8 }
+    ensures { slice_index result ≡ assign (slice_index assignment) v x }
+{
+    let mut changed = assignment;
+    changed[v] = x;
+    changed
+}
+
+/// The nodes of the arguments of a call.
+pub fn arguments(assignment: [u64; 8], args: &[u8]) -> [u64; 8]
+    requires { length args.now ≤ 8 }
+    ensures { slice_index result ≡ slice_index (map (slice_index assignment) args.now) }
+{
+    let mut cells = [0; 8];
+    for (i, v) in args.iter().enumerate() {
+        cells[i] = node_of(assignment, *v);
+    }
+    cells
+}
+
+/// The assignment of parameters to the nodes of a tuple.
+pub fn of_tuple(tuple: &[u64]) -> [u64; 8]
+    requires { length tuple.now ≤ 8 }
+    ensures { slice_index result ≡ slice_index tuple.now }
+{
+    let mut cells = [0; 8];
+    for (i, x) in tuple.iter().enumerate() {
+        cells[i] = *x;
+    }
+    cells
+}
