@@ -127,7 +127,7 @@ impl Store {
     }
 
     /// The number of saved versions.
-    pub fn saved(&self) -> u64
+    pub fn kept(&self) -> u64
         ensures { result ≡ length self.now.saved }
     {
         self.saved.len() as u64

@@ -12,6 +12,3 @@ pub use error::WordsError;
 pub use laws::one_command_law;
 pub use reading::command;
 pub use request::Command;
-
-#[cfg(test)]
-mod tests;
