@@ -1,19 +1,17 @@
-//! Tests of runs as a whole, over a folder and sinks in memory.
+//! Tests of what no run of the program shows.
 #![tactic(auto)]
 
 #[cfg(test)]
-mod chains;
+mod documents;
 #[cfg(test)]
-mod faults;
+mod files;
 #[cfg(test)]
-mod input;
+mod numbers;
 #[cfg(test)]
-mod limits;
+mod ranks;
 #[cfg(test)]
-mod names;
+mod reach;
 #[cfg(test)]
-mod rows;
+mod store;
 #[cfg(test)]
-mod setting;
-#[cfg(test)]
-mod statechart;
+mod words;
