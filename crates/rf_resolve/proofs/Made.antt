@@ -1,5 +1,5 @@
 -- What a text that breaks no rule gives to those who make its problem.
-use Rattle.std.proofs.Common.{◌≡◌, ◌∙◌, ◌≤◌, ◌<◌, ◌^◌, ◌⊎◌, ◌++◌, All, List, map, length, Result, Ok, Err, IfOk, IfErr, Some, None, sym, ap, subst, inl, inr, arith}
+use Rattle.std.proofs.Common.{◌≡◌, ◌∙◌, ◌≤◌, ◌<◌, ◌^◌, ◌⊎◌, ◌++◌, All, List, map, length, Result, Ok, Err, IfOk, IfErr, Some, None, refl, sym, ap, subst, inl, inr, arith}
 use Rattle.std.proofs.lemmas.List.Elements.{All-weaker}
 use Rattle.rf_problem.specs.Valid.{concrete_numbers, new_object}
 use Rattle.rf_problem.specs.declared.class.Class.{Class}
@@ -56,6 +56,16 @@ one_problem d p q a b =
     (a.objects ∙ ap (λ cs. map (resolved_object d) (named_objects d) ++ map new_object (concrete_numbers 0 cs)) classes ∙ sym b.objects)
     (a.assertions ∙ sym b.assertions) (a.scopes ∙ sym b.scopes)
 
+-- running out of memory answers for any tree
+pub answers_memory :
+    {T X F : Type 0} (view : T → X) (Means : X → Type 0) (Fails : F → Type 0) → Answers view Means Fails (Err Memory)
+answers_memory view Means Fails = record {
+  ok = tt;
+  found = λ x is. refl;
+  fault = tt;
+  stuck = λ f fails. inr refl;
+}
+
 -- a call that makes that problem, or names the fault of the declarations, answers for the tree
 pub answers_for :
     (ast : Ast) (d : Declared) → d ≡ declared_in ast → (result : Result Problem (Failure NameError)) →
@@ -75,13 +85,3 @@ answers_for ast d same (Err (Fault e)) sound made failed = record {
   stuck = λ f fails. inl (let one : Some e ≡ Some f = sym failed ∙ ap fault_of same ∙ fails in cc);
 }
 answers_for ast d same (Err Memory) sound made failed = answers_memory (λ p. p) (Resolves ast) (NameFault ast)
-
--- running out of memory answers for any tree
-pub answers_memory :
-    {T X F : Type 0} (view : T → X) (Means : X → Type 0) (Fails : F → Type 0) → Answers view Means Fails (Err Memory)
-answers_memory view Means Fails = record {
-  ok = tt;
-  found = λ x is. refl;
-  fault = tt;
-  stuck = λ f fails. inr refl;
-}

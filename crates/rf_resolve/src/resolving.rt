@@ -37,6 +37,20 @@ fn problem_of(alloc: Global, names: &Names) -> Result<Problem, AllocError>
     }
 }
 
+// The problem of these names, or the first rule that is broken.
+fn resolve_names(alloc: Global, names: &Names) -> Result<Problem, Failure<NameError>>
+    requires { IsOfText names.now.declared.now }
+    ensures sound { IfOk result (λ p. fault_of names.now.declared.now ≡ None) }
+    ensures ok { IfOk result (λ p. IsResolved names.now.declared.now p) }
+    ensures fault { IfErr result (λ e. IfFault e (λ f. fault_of names.now.declared.now ≡ Some f)) }
+{
+    if let Some(fault) = first_fault(alloc, names)? {
+        return Err(Failure::Fault(fault));
+    }
+    let problem = problem_of(alloc, names)?;
+    Ok(problem)
+}
+
 // The problem of these declarations, or the first rule that is broken.
 fn resolve_declared(alloc: Global, declared: &Declarations) -> Result<Problem, Failure<NameError>>
     requires { IsOfText declared.now }
@@ -45,11 +59,7 @@ fn resolve_declared(alloc: Global, declared: &Declarations) -> Result<Problem, F
     ensures fault { IfErr result (λ e. IfFault e (λ f. fault_of declared.now ≡ Some f)) }
 {
     let names = Names::of(alloc, declared)?;
-    if let Some(fault) = first_fault(alloc, &names)? {
-        return Err(Failure::Fault(fault));
-    }
-    let problem = problem_of(alloc, &names)?;
-    Ok(problem)
+    resolve_names(alloc, &names)
 }
 
 /// The problem that a tree stands for: each list is that of its declarations in order, each number
