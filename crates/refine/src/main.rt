@@ -27,7 +27,7 @@ impl<T: Drop> From<AllocFailed<T>> for WordsError {
     }
 }
 
-// The words behind the program's name.
+// The words after the program's name.
 fn words(rt: &HostRuntime, alloc: Global) -> Result<Vec<Text>, WordsError> {
     let args = match env::args(rt) {
         Ok(args) => args,
