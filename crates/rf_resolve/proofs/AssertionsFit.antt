@@ -33,7 +33,7 @@ use Rattle.rf_resolve.specs.Resolved.{object_or_new, resolved_arg, resolved_asse
 use Rattle.rf_resolve.proofs.ClassesFit.{class_count}
 use Rattle.rf_resolve.proofs.ClearOffsets.{few-from_first_past, nil-each, nil-parts, nil-right, offset_if-nil}
 use Rattle.rf_resolve.proofs.NumberFacts.{class_below, some_number}
-use Rattle.rf_resolve.proofs.PairFacts.{All-back, All-flat_map, All-front, get_or-map_any}
+use Rattle.rf_resolve.proofs.PairFacts.{All-back, All-flat_map, All-prefix, get_or-map_any}
 use Rattle.rf_resolve.proofs.ReferencesFit.{reference_count}
 use Rattle.rf_resolve.proofs.RuleParts.{clear, known, known_class}
 use Rattle.rf_resolve.proofs.SenseLemmas.{all-both, fits-from_nil, is_there, known-from_nil, literal_symbols-there, one-from_clear, one-from_sense}
@@ -133,7 +133,7 @@ names_of_assertions P (Multi items ∷ ss) all =
 names_of_assertions P (Scope bounds ∷ ss) all = names_of_assertions P ss all
 names_of_assertions P (Assert is_default assertion ∷ ss) all =
     All-cons (AreIn P) record { is_default = is_default; atom = asserted_atom assertion; value = asserted_truth assertion } (flat_map assertions_in ss)
-    (All-flat_map P object_in (asserted_atom assertion).args (All-front P (flat_map object_in (asserted_atom assertion).args) (flat_map mentions_in ss) all))
+    (All-flat_map P object_in (asserted_atom assertion).args (All-prefix P (flat_map object_in (asserted_atom assertion).args) (flat_map mentions_in ss) all))
     (names_of_assertions P ss (All-back P (flat_map object_in (asserted_atom assertion).args) (flat_map mentions_in ss) all))
 
 -- how many classes aren't abstract

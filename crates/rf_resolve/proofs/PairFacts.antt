@@ -54,9 +54,9 @@ AllPairs-unmap R f xs pairs i j d before l =
 
 -- what holds of all elements of joined lists
 module _ {X : Type 0} (P : X → Type 0) where
-  pub All-front : (xs ys : List X) → All P (xs ++ ys) → All P xs
-  All-front [] ys all = All-nil P
-  All-front (x ∷ xs) ys all = All-cons P x xs (All-head P x (xs ++ ys) all) (All-front xs ys (All-tail P x (xs ++ ys) all))
+  pub All-prefix : (xs ys : List X) → All P (xs ++ ys) → All P xs
+  All-prefix [] ys all = All-nil P
+  All-prefix (x ∷ xs) ys all = All-cons P x xs (All-head P x (xs ++ ys) all) (All-prefix xs ys (All-tail P x (xs ++ ys) all))
 
   pub All-back : (xs ys : List X) → All P (xs ++ ys) → All P ys
   All-back [] ys all = all
@@ -65,7 +65,7 @@ module _ {X : Type 0} (P : X → Type 0) where
   pub All-flat_map : {Y : Type 0} (f : Y → List X) (ys : List Y) → All P (flat_map f ys) → All (λ y. All P (f y)) ys
   All-flat_map f [] all = All-nil (λ y. All P (f y))
   All-flat_map f (y ∷ ys) all =
-      All-cons (λ z. All P (f z)) y ys (All-front (f y) (flat_map f ys) all) (All-flat_map f ys (All-back (f y) (flat_map f ys) all))
+      All-cons (λ z. All P (f z)) y ys (All-prefix (f y) (flat_map f ys) all) (All-flat_map f ys (All-back (f y) (flat_map f ys) all))
 
   pub All-flatten : {Y : Type 0} (f : Y → List X) (ys : List Y) → All (λ y. All P (f y)) ys → All P (flat_map f ys)
   All-flatten f [] all = All-nil P
