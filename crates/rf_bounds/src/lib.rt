@@ -15,10 +15,10 @@ pub const MOST_PREDICATES: usize = 256;
 pub const MOST_SCOPES: usize = 256;
 
 /// Named objects of a problem.
-pub const MOST_OBJECTS: usize = 4096;
+pub const MOST_OBJECTS: usize = 4_096;
 
-/// Assertions of a problem.
-pub const MOST_ASSERTIONS: usize = 65536;
+/// Assertions of a problem, as they are written.
+pub const MOST_ASSERTIONS: usize = 262_144;
 
 /// Parameters of a predicate.
 pub const MOST_PARAMETERS: usize = 4;

@@ -10,10 +10,10 @@ use Rattle.rf_finite.proofs.Walks.{IsReachable-from_walk_below, walk_below-from_
 use Rattle.rf_values.specs.Count.{contains}
 use Rattle.rf_values.specs.declared.truth.Truth.{Truth}
 use Rattle.rf_values.specs.declared.truth.Truth.TheVariants.{True, False, Unknown, Error}
-use Rattle.rf_problem.specs.Asserted.{admitted, asserted, object_at}
+use Rattle.rf_problem.specs.Asserted.{admitted, asserted}
+use Rattle.rf_problem.specs.Parts.{arity_of, object_at, reference_at, scope_at}
 use Rattle.rf_problem.specs.Classes.{class_at, is_below}
 use Rattle.rf_problem.specs.Contained.{is_contained_class}
-use Rattle.rf_problem.specs.Parts.{arity_of, reference_at, scope_at}
 use Rattle.rf_problem.specs.Valid.{is_declared}
 use Rattle.rf_problem.specs.declared.object.ObjectName.{ObjectName}
 use Rattle.rf_problem.specs.declared.object.ObjectName.TheVariants.{Named, NewOf}

@@ -8,9 +8,8 @@ use Rattle.std.proofs.lemmas.Bool.{cases_Bool, cases_lt}
 use Rattle.rf_text.specs.Line.{NoBreak}
 use Rattle.rf_text.specs.Written.{CanBeQuoted, is_bare, written_name}
 use Rattle.rf_text.proofs.WrittenLemmas.{one_written, quoted, written_bare, written_injective, written_quoted}
-use Rattle.rf_problem.specs.Asserted.{no_object, object_at}
+use Rattle.rf_problem.specs.Parts.{no_object, no_reference, object_at, reference_at}
 use Rattle.rf_problem.specs.Classes.{class_at, no_class}
-use Rattle.rf_problem.specs.Parts.{no_reference, reference_at}
 use Rattle.rf_problem.specs.Valid.{concrete_numbers, is_named, named_objects, new_object}
 use Rattle.rf_problem.specs.declared.class.Class.{Class}
 use Rattle.rf_problem.specs.declared.object.ObjectDecl.{ObjectDecl}

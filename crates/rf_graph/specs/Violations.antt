@@ -9,10 +9,10 @@ use Rattle.rf_finite.specs.Walks.{IsReachable}
 use Rattle.rf_values.specs.Count.{contains}
 use Rattle.rf_values.specs.declared.truth.Truth.{Truth}
 use Rattle.rf_values.specs.declared.truth.Truth.TheVariants.{True, False, Unknown, Error}
-use Rattle.rf_problem.specs.Asserted.{admitted, asserted, object_at}
+use Rattle.rf_problem.specs.Asserted.{admitted, asserted}
+use Rattle.rf_problem.specs.Parts.{arity_of, is_contains, object_at, reference_at, scope_at}
 use Rattle.rf_problem.specs.Classes.{IsBelow, class_at, is_below}
 use Rattle.rf_problem.specs.Contained.{is_contained_class}
-use Rattle.rf_problem.specs.Parts.{arity_of, is_contains, reference_at, scope_at}
 use Rattle.rf_problem.specs.Valid.{is_declared, is_named}
 use Rattle.rf_problem.specs.declared.object.ObjectName.TheVariants.{NewOf}
 use Rattle.rf_problem.specs.declared.problem.Problem.{Problem}

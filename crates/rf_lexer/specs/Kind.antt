@@ -2,6 +2,7 @@
 use Rattle.std.specs.Prelude.{◌≡◌, ℕ, ◌<◌, ◌≤◌, List, ◌++◌, length}
 use Rattle.std.specs.Str.{encode_utf8_all}
 use Rattle.std.specs.Str.Parse.{digits_value}
+use Rattle.rf_bounds.specs.declared.TheConstants.{GREATEST_NUMBER, MOST_NAME_BYTES}
 use Rattle.rf_text.specs.Identifier.{IsIdentifier, IsQuoted}
 use Rattle.rf_lexer.specs.Lexeme.{IsNumber}
 use Rattle.rf_lexer.specs.Spelling.{keyword_spelling, mark_spelling}
@@ -27,8 +28,8 @@ pub record IsLongest (kind : Kind) (cs rest : List ℕ) : Type 0 where
 -- a name of more than 255 bytes
 abbrev pub IsLongName : Kind → Type 0
 IsLongName (Word k) = ⊥
-IsLongName (Name t) = 255 < length t
-IsLongName (Quoted t) = 255 < length t
+IsLongName (Name t) = MOST_NAME_BYTES < length t
+IsLongName (Quoted t) = MOST_NAME_BYTES < length t
 IsLongName (Number n) = ⊥
 IsLongName (Mark m) = ⊥
 
@@ -37,5 +38,5 @@ abbrev pub IsBigNumber : Kind → Type 0
 IsBigNumber (Word k) = ⊥
 IsBigNumber (Name t) = ⊥
 IsBigNumber (Quoted t) = ⊥
-IsBigNumber (Number n) = 1000000 < n
+IsBigNumber (Number n) = GREATEST_NUMBER < n
 IsBigNumber (Mark m) = ⊥

@@ -7,11 +7,10 @@ ghost use Rattle.rf_lexer.specs.Private.Scan.{Fails, IsIdentifierTo, IsSpan, Tak
 use crate::character::{CharSet, before, first_char, skip_all};
 use crate::keyword::keyword_of;
 use crate::{Kind, LexError};
+use rf_bounds::MOST_NAME_BYTES;
 use rf_failure::Failure;
 use rf_text::Text;
 use std::alloc::Global;
-
-const MOST_BYTES: usize = 255;
 
 // The kind of the identifier that is in the text before the rest.
 fn identifier_kind(
@@ -28,7 +27,7 @@ fn identifier_kind(
     if let Some(keyword) = keyword_of(word) {
         return Ok(Kind::Word(keyword));
     }
-    if word.len() > MOST_BYTES {
+    if word.len() > MOST_NAME_BYTES {
         return Err(Failure::Fault(LexError::LongName(offset)));
     }
     Ok(Kind::Name(Text::from_str(alloc, word)?))
@@ -66,7 +65,7 @@ fn quoted_kind(
     ensures fault { IfErr result (λ e. Fails e offset (39 ∷ chars text.now)) }
 {
     let name = before(text, rest);
-    if name.len() > MOST_BYTES {
+    if name.len() > MOST_NAME_BYTES {
         return Err(Failure::Fault(LexError::LongName(offset)));
     }
     Ok(Kind::Quoted(Text::from_str(alloc, name)?))

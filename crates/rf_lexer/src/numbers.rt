@@ -5,9 +5,8 @@ ghost use Rattle.rf_lexer.specs.Private.Scan.{Fails, IsNumberTo, Takes};
 
 use crate::character::{CharSet, before, skip_all};
 use crate::{Kind, LexError};
+use rf_bounds::GREATEST_NUMBER;
 use rf_failure::Failure;
-
-const MOST: u32 = 1_000_000;
 
 // What follows the number of this first digit, which is right before `after`.
 fn skip_number(first: char, after: &str) -> &str
@@ -30,7 +29,7 @@ fn number_kind(offset: u64, text: &str, rest: &str) -> Result<Kind, Failure<LexE
     ensures fault { IfErr result (λ e. Fails e offset (chars text.now)) }
 {
     match before(text, rest).parse::<u32>() {
-        Ok(n) if n <= MOST => Ok(Kind::Number(n)),
+        Ok(n) if n <= GREATEST_NUMBER => Ok(Kind::Number(n)),
         _ => Err(Failure::Fault(LexError::BigNumber(offset))),
     }
 }

@@ -5,10 +5,9 @@ use Rattle.std.specs.FinSet.{FinSet, contains}
 use Rattle.std.specs.Ordering.{nat_cmp}
 use Rattle.std.proofs.lemmas.Bool.{and_parts, and_from, and_right, both_ways, cases_Bool, cases_eq, eq-eqb, lt-ltb, ltb-true, ne_eqb, not_from_false}
 use Rattle.rf_finite.specs.Range.{count_below}
-use Rattle.rf_finite.specs.Walks.{IsReachable, walk_below}
+use Rattle.rf_finite.specs.Walks.{HasNoCycle, IsReachable, walk_below}
 use Rattle.rf_finite.proofs.Range.{count_below-le_bound}
 use Rattle.rf_finite.proofs.Walks.{IsReachable-from_edge, IsReachable-trans, count_below-reachable_falls}
-use Rattle.rf_problem.specs.Classes.{HasNoCycle}
 use Rattle.rf_problem.specs.Cycles.{AreOffCycles, IsWithin, LeadsInto}
 
 module _ (edge : ℕ → ℕ → Bool) (n : ℕ) where

@@ -5,11 +5,12 @@ use Rattle.rf_values.specs.declared.truth.Truth.{Truth}
 use Rattle.rf_values.specs.declared.truth.Truth.TheVariants.{True, False, Unknown, Error}
 use Rattle.rf_values.specs.Count.{lesser_end}
 use Rattle.rf_values.specs.Truth.{merge}
-use Rattle.rf_problem.specs.Parts.{predicate_at, same_symbol}
+use Rattle.rf_problem.specs.Parts.{object_at, predicate_at, same_symbol}
 use Rattle.rf_problem.specs.declared.assertion.Assertion.{Assertion}
 use Rattle.rf_problem.specs.declared.object.ObjectDecl.{ObjectDecl}
+use Rattle.rf_problem.specs.declared.object.ObjectKind.{ObjectKind}
+use Rattle.rf_problem.specs.declared.object.ObjectKind.TheVariants.{Plain, Atom, LiteralOf}
 use Rattle.rf_problem.specs.declared.object.ObjectName.TheVariants.{NewOf}
-use Rattle.rf_problem.specs.declared.predicate.Predicate.{Predicate}
 use Rattle.rf_problem.specs.declared.problem.Problem.{Problem}
 use Rattle.rf_problem.specs.declared.symbol.Symbol.{Symbol}
 use Rattle.rf_problem.specs.declared.symbol.Symbol.TheVariants.{Class, Reference, Predicate as Defined, Exists, Equals}
@@ -37,18 +38,25 @@ is_ordinary s t a = if a.is_default then false else speaks_of s t a
 abbrev pub is_default : Symbol → List ℕ → Assertion → Bool
 is_default s t a = if a.is_default then speaks_of s t a else false
 
--- whether a symbol is an error predicate
-abbrev pub is_error : List Predicate → Symbol → Bool
-is_error predicates (Class c) = false
-is_error predicates (Reference r) = false
-is_error predicates (Defined q) = (predicate_at predicates q).is_error
-is_error predicates Exists = false
-is_error predicates Equals = false
+-- whether an object of this kind is a literal of enum c
+abbrev pub is_literal_of : ObjectKind → ℕ → Bool
+is_literal_of Plain c = false
+is_literal_of Atom c = false
+is_literal_of (LiteralOf e) c = e == c
 
--- the values of the ordinary assertions that match; an error predicate is asserted to be false everywhere
+-- this truth where the test says so, else nothing
+abbrev pub when : Bool → Truth → List Truth
+when b v = if b then v ∷ [] else []
+
+-- what is asserted though no assertion is written: a literal has its enum's class, and an error predicate is false everywhere
+abbrev pub unwritten : Problem → Symbol → List ℕ → List Truth
+unwritten p (Class c) (o ∷ []) = when (is_literal_of (object_at p.objects o).kind c) True
+unwritten p (Defined q) t = when (predicate_at p.predicates q).is_error False
+unwritten p _ t = []
+
+-- the values of the ordinary assertions that match, written or not
 abbrev pub ordinary_values : Problem → Symbol → List ℕ → List Truth
-ordinary_values p s t =
-    map (λ a. a.value) (filter (is_ordinary s t) p.assertions) ++ (if is_error p.predicates s then False ∷ [] else [])
+ordinary_values p s t = map (λ a. a.value) (filter (is_ordinary s t) p.assertions) ++ unwritten p s t
 
 -- the values of the defaults that match
 abbrev pub default_values : Problem → Symbol → List ℕ → List Truth
@@ -82,14 +90,6 @@ with_equals True c = record { lo = c.lo; hi = lesser_end c.hi (Some 1) }
 with_equals False c = record { lo = c.lo; hi = Some 0 }
 with_equals Unknown c = c
 with_equals Error c = record { lo = c.lo; hi = Some 0 }
-
--- what stands where no object has the number
-abbrev pub no_object : ObjectDecl
-no_object = record { name = NewOf 0; count = record { lo = 0; hi = None } }
-
--- the object of this number
-abbrev pub object_at : List ObjectDecl → ℕ → ObjectDecl
-object_at objects o = slice_index_or objects o no_object
 
 -- how many nodes may come from an object: its count, by what is asserted of `exists` and `equals`
 abbrev pub admitted : Problem → ℕ → Count

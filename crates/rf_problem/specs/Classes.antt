@@ -6,7 +6,7 @@ use Rattle.rf_problem.specs.declared.class.Class.{Class}
 
 -- what stands where no class has the number
 abbrev pub no_class : Class
-no_class = record { name = []; is_abstract = false; supers = [] }
+no_class = record { name = []; is_abstract = false; is_enum = false; supers = [] }
 
 -- the class of this number
 abbrev pub class_at : List Class → ℕ → Class
@@ -16,10 +16,6 @@ class_at classes c = slice_index_or classes c no_class
 abbrev pub extends : List Class → ℕ → ℕ → Bool
 extends classes c d = list_any (λ s. s == d) (class_at classes c).supers
 
--- no way leads from a number below n back to it
-abbrev pub HasNoCycle : (ℕ → ℕ → Bool) → ℕ → Type 0
-HasNoCycle edge n = (x : ℕ) → x < n → IsReachable edge (λ y. true) n x x → ⊥
-
 -- class c is below class d: it is d, or extends it, directly or through others
 abbrev pub IsBelow : List Class → ℕ → ℕ → Type 0
 IsBelow classes c d = (c ≡ d) ⊎ IsReachable (extends classes) (λ x. true) (length classes) c d
@@ -28,6 +24,6 @@ IsBelow classes c d = (c ≡ d) ⊎ IsReachable (extends classes) (λ x. true) (
 abbrev pub is_below : List Class → ℕ → ℕ → Bool
 is_below classes c d = c == d || walk_below (extends classes) (λ x. true) (length classes) c d
 
--- whether c is a class that nodes may have
+-- whether c is a class that nodes may have; an enum is one
 abbrev pub is_concrete : List Class → ℕ → Bool
 is_concrete classes c = nat_lt c (length classes) && not (class_at classes c).is_abstract

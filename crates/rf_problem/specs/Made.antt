@@ -13,7 +13,7 @@ pub record AreParts (classes : List Class) (references : List Relation) (predica
     (assertions : List Assertion) (scopes : List Scope) : Type 0 where
   pub classes_fit : AreClasses classes
   pub references_fit : AreReferences classes references
-  pub predicates_fit : ArePredicates classes references predicates
   pub objects_fit : AreObjects classes objects
+  pub predicates_fit : ArePredicates classes references objects predicates
   pub assertions_fit : AreAssertions classes references predicates objects assertions
   pub scopes_fit : AreScopes classes scopes

@@ -10,10 +10,13 @@ use Rattle.rf_problem.specs.declared.predicate.Clause.{Clause}
 use Rattle.rf_problem.specs.declared.predicate.Literal.{Literal}
 use Rattle.rf_problem.specs.declared.predicate.Literal.TheVariants.{Call, Same, Differ}
 use Rattle.rf_problem.specs.declared.predicate.Predicate.{Predicate}
+use Rattle.rf_problem.specs.declared.predicate.Term.{Term}
+use Rattle.rf_problem.specs.declared.predicate.Term.TheVariants.{Var, Atom}
 use Rattle.rf_problem.specs.declared.symbol.Symbol.{Symbol}
 use Rattle.rf_problem.specs.declared.symbol.Symbol.TheVariants.{Class, Reference, Predicate as Defined, Exists, Equals}
 
--- which atoms hold at the elements, which are the numbers below size, and over which of them variables range
+-- which atoms hold at the elements, which are the numbers below size, over which of them variables range, and from which
+-- object each of them comes
 pub record Reading : Type 0 where
   pub size : ℕ
   pub present : ℕ → Bool
@@ -21,6 +24,7 @@ pub record Reading : Type 0 where
   pub has_edge : ℕ → ℕ → ℕ → Bool
   pub is_same : ℕ → ℕ → Bool
   pub is_different : ℕ → ℕ → Bool
+  pub origin : ℕ → ℕ
 
 -- the element that each variable stands for
 abbrev pub Assignment : Type 0
@@ -56,6 +60,37 @@ some_assignment here chosen (entry ∷ entries) v assignment test =
     then some_below here.size (λ x. here.present x && some_assignment here chosen entries (suc v) (assign assignment v x) test)
     else some_assignment here chosen entries (suc v) assignment test
 
+-- the element that is chosen for each atom
+abbrev pub Choice : Type 0
+Choice = ℕ → ℕ
+
+-- the element that a term stands for
+abbrev pub element_of : Assignment → Choice → Term → ℕ
+element_of assignment choice (Var v) = assignment v
+element_of assignment choice (Atom o) = choice o
+
+-- the atoms among the terms
+abbrev pub atoms_among : List Term → List ℕ
+atoms_among [] = []
+atoms_among (Var v ∷ terms) = atoms_among terms
+atoms_among (Atom o ∷ terms) = o ∷ atoms_among terms
+
+-- whether some present elements that come from these atoms make the choice pass the test
+abbrev pub some_choice : Reading → List ℕ → Choice → (Choice → Bool) → Bool
+some_choice here [] choice test = test choice
+some_choice here (o ∷ atoms) choice test =
+    some_below here.size (λ x. here.present x && (here.origin x == o && some_choice here atoms (assign choice o x) test))
+
+-- whether the terms stand for elements that pass the test, with some choice for the atoms among them
+abbrev pub some_elements : Reading → Assignment → List Term → (List ℕ → Bool) → Bool
+some_elements here assignment terms test =
+    some_choice here (atoms_among terms) (λ o. 0) (λ choice. test (map (element_of assignment choice) terms))
+
+-- whether a symbol holds at terms, or with closure a walk of its steps leads from the first to the second
+abbrev pub call_true : Calls → Reading → Reading → Bool → Symbol → Assignment → List Term → Bool
+call_true calls here inside closure symbol assignment args =
+    some_elements here assignment args (atom_true calls here inside closure symbol)
+
 -- whether a variable ranges inside the negation of literal i
 abbrev pub is_entry : ℕ → Option ℕ → Bool
 is_entry i None = false
@@ -64,11 +99,13 @@ is_entry i (Some j) = i == j
 -- whether literal i of a clause with these variables holds; inside a negation the readings are exchanged
 abbrev pub literal_true : Calls → Reading → Reading → List (Option ℕ) → ℕ → Assignment → Literal → Bool
 literal_true calls here inside variables i assignment (Call false closure symbol args) =
-    atom_true calls here inside closure symbol (map assignment args)
+    call_true calls here inside closure symbol assignment args
 literal_true calls here inside variables i assignment (Call true closure symbol args) =
-    not (some_assignment inside (is_entry i) variables 0 assignment (λ chosen. atom_true calls inside here closure symbol (map chosen args)))
-literal_true calls here inside variables i assignment (Same a b) = here.is_same (assignment a) (assignment b)
-literal_true calls here inside variables i assignment (Differ a b) = here.is_different (assignment a) (assignment b)
+    not (some_assignment inside (is_entry i) variables 0 assignment (λ chosen. call_true calls inside here closure symbol chosen args))
+literal_true calls here inside variables i assignment (Same a b) =
+    some_elements here assignment (a ∷ b ∷ []) (λ t. here.is_same (slice_index t 0) (slice_index t 1))
+literal_true calls here inside variables i assignment (Differ a b) =
+    some_elements here assignment (a ∷ b ∷ []) (λ t. here.is_different (slice_index t 0) (slice_index t 1))
 
 -- whether the literals from number i on hold
 abbrev pub literals_true : Calls → Reading → Reading → List (Option ℕ) → ℕ → Assignment → List Literal → Bool

@@ -1,11 +1,13 @@
 //! What the assertions of a problem say together.
 
 ghost use Rattle.std.specs.Prelude.{◌≡◌, ◌<◌, length};
-ghost use Rattle.rf_problem.specs.Asserted.{admitted, asserted, is_error, match_each, matches, speaks_of, with_equals, with_exists};
-ghost use Rattle.rf_problem.specs.Heard.{heard_with};
-ghost use Rattle.rf_problem.specs.Parts.{arity_of, same_symbol};
+ghost use Rattle.rf_problem.specs.Asserted.{admitted, asserted, match_each, matches, speaks_of, unwritten, when, with_equals, with_exists};
+ghost use Rattle.rf_values.specs.declared.truth.Truth.TheVariants.{True};
+ghost use Rattle.rf_problem.specs.Heard.{heard_with, listed};
+ghost use Rattle.rf_problem.specs.declared.symbol.Symbol.TheVariants.{Class};
+ghost use Rattle.rf_problem.specs.Parts.{arity_of, predicate_at, same_symbol};
 
-use crate::{Assertion, Problem, Symbol};
+use crate::{Assertion, ObjectKind, Problem, Symbol};
 use rf_values::{Count, Truth};
 
 // What was heard so far of a symbol at a tuple.
@@ -108,15 +110,33 @@ fn with_equals(known: Truth, count: Count) -> Count
 }
 
 impl Problem {
-    // Whether the symbol is an error predicate.
-    fn is_error(&self, symbol: Symbol) -> bool
-        ensures { result ≡ is_error self.now.predicates symbol }
+    fn is_error(&self, predicate: u32) -> bool
+        ensures { result ≡ (predicate_at self.now.predicates predicate).is_error }
+    {
+        (predicate as usize) < self.predicates.len() && self.predicate(predicate).is_error
+    }
+
+    // Whether these are one object, a literal of this enum.
+    fn is_literal_of(&self, class: u32, tuple: &[u64]) -> bool
+        ensures { when result True ≡ unwritten self.now (Class class) tuple.now }
+    {
+        let &[object] = tuple else {
+            return false;
+        };
+        match self.objects.get(object as usize) {
+            Some(object) => object.kind == ObjectKind::LiteralOf(class),
+            None => false,
+        }
+    }
+
+    // What is asserted though no assertion is written, if anything is.
+    fn unwritten(&self, symbol: Symbol, tuple: &[u64]) -> Option<Truth>
+        ensures { listed result ≡ unwritten self.now symbol tuple.now }
     {
         match symbol {
-            Symbol::Predicate(predicate) => {
-                (predicate as usize) < self.predicates.len() && self.predicate(predicate).is_error
-            }
-            Symbol::Class(_) | Symbol::Reference(_) | Symbol::Exists | Symbol::Equals => false,
+            Symbol::Class(class) if self.is_literal_of(class, tuple) => Some(Truth::True),
+            Symbol::Predicate(predicate) if self.is_error(predicate) => Some(Truth::False),
+            _ => None,
         }
     }
 
@@ -125,13 +145,8 @@ impl Problem {
         requires { length tuple.now ≡ arity_of self.now.predicates symbol }
         ensures { result ≡ asserted self.now symbol tuple.now }
     {
-        let by_kind = if self.is_error(symbol) {
-            Some(Truth::False)
-        } else {
-            None
-        };
         let mut heard = Heard {
-            ordinary: by_kind,
+            ordinary: self.unwritten(symbol, tuple),
             default: Truth::Unknown,
         };
         for assertion in self.assertions.iter() {

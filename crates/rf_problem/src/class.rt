@@ -6,6 +6,8 @@ pub struct Class {
     pub name: Text,
     /// Whether no node may have exactly this class.
     pub is_abstract: bool,
+    /// Whether it is an enum: its literals have it, and no other node has.
+    pub is_enum: bool,
     /// The numbers of the classes that it extends directly, in the order of the text.
     pub supers: Items<u32>,
 }

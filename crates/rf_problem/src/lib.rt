@@ -2,7 +2,7 @@
 //! number the place of what it stands for.
 //!
 //! The type keeps what every problem is: names are names, numbers stand for what is there, no class
-//! extends itself, and there is one object for the new nodes of each class that isn't abstract. So
+//! extends itself, and there is one object for the new nodes of each class that has such nodes. So
 //! whoever is lent a problem may rely on that.
 #![tactic(auto)]
 
@@ -26,8 +26,8 @@ pub use assertion::Assertion;
 pub use class::Class;
 pub use class_order::ClassOrder;
 pub use laws::{below_law, depth_law, problem_law};
-pub use object::{ObjectDecl, ObjectName};
-pub use predicate::{Clause, Literal, Predicate};
+pub use object::{ObjectDecl, ObjectKind, ObjectName};
+pub use predicate::{Clause, Literal, Predicate, Term};
 pub use problem::Problem;
 pub use reference::{RefKind, Reference};
 pub use scope::Scope;

@@ -1,6 +1,6 @@
 //! Problems made of their parts.
 
-ghost use Rattle.std.specs.Prelude.{◌≡◌, ◌↔◌, IfNone, IfSome, IsTrue};
+ghost use Rattle.std.specs.Prelude.{◌≡◌, ◌↔◌, IfNone, IfOk, IfSome, IsTrue};
 ghost use Rattle.rf_problem.specs.Made.{AreParts};
 
 mod apart;
@@ -23,6 +23,7 @@ use predicates::are_predicates;
 use references::are_references;
 use rf_text::Items;
 use scopes::are_scopes;
+use std::alloc::{AllocError, Global};
 
 fn are_parts(
     classes: &[Class],
@@ -38,7 +39,10 @@ fn are_parts(
     if !are_classes(classes) || !are_references(classes, references) {
         return false;
     }
-    if !are_predicates(classes, references, predicates) || !are_objects(classes, objects) {
+    if !are_objects(classes, objects) {
+        return false;
+    }
+    if !are_predicates(classes, references, objects, predicates) {
         return false;
     }
     are_assertions(classes, references, predicates, objects, assertions)
@@ -47,24 +51,25 @@ fn are_parts(
 
 impl Problem {
     /// The problem of these parts, or None where they aren't what the parts of every problem are.
-    /// It takes no memory. Names are compared pair by pair.
+    /// Names are compared pair by pair.
     pub fn new(
+        alloc: Global,
         classes: Vec<Class>,
         references: Vec<Reference>,
         predicates: Vec<Predicate>,
         objects: Vec<ObjectDecl>,
         assertions: Vec<Assertion>,
         scopes: Vec<Scope>,
-    ) -> Option<Problem>
-        ensures classes { IfSome result (λ p. p.classes ≡ classes.items) }
-        ensures references { IfSome result (λ p. p.references ≡ references.items) }
-        ensures predicates { IfSome result (λ p. p.predicates ≡ predicates.items) }
-        ensures objects { IfSome result (λ p. p.objects ≡ objects.items) }
-        ensures assertions { IfSome result (λ p. p.assertions ≡ assertions.items) }
-        ensures scopes { IfSome result (λ p. p.scopes ≡ scopes.items) }
-        ensures refused { IfNone result (
+    ) -> Result<Option<Problem>, AllocError>
+        ensures classes { IfOk result (λ made. IfSome made (λ p. p.classes ≡ classes.items)) }
+        ensures references { IfOk result (λ made. IfSome made (λ p. p.references ≡ references.items)) }
+        ensures predicates { IfOk result (λ made. IfSome made (λ p. p.predicates ≡ predicates.items)) }
+        ensures objects { IfOk result (λ made. IfSome made (λ p. p.objects ≡ objects.items)) }
+        ensures assertions { IfOk result (λ made. IfSome made (λ p. p.assertions ≡ assertions.items)) }
+        ensures scopes { IfOk result (λ made. IfSome made (λ p. p.scopes ≡ scopes.items)) }
+        ensures refused { IfOk result (λ made. IfNone made (
             AreParts classes.items references.items predicates.items
-            objects.items assertions.items scopes.items → ⊥) }
+            objects.items assertions.items scopes.items → ⊥)) }
     {
         if !are_parts(
             &classes,
@@ -74,15 +79,15 @@ impl Problem {
             &assertions,
             &scopes,
         ) {
-            return None;
+            return Ok(None);
         }
-        Some(Problem {
+        Ok(Some(Problem {
             classes: Items::from_vec(classes),
             references: Items::from_vec(references),
             predicates: Items::from_vec(predicates),
             objects: Items::from_vec(objects),
             assertions: Items::from_vec(assertions),
             scopes: Items::from_vec(scopes),
-        })
+        }))
     }
 }

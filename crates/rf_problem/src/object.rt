@@ -9,6 +9,17 @@ pub enum ObjectName {
     NewOf(u32),
 }
 
+/// What an object is besides.
+#[derive(Clone, Copy, Debug, PartialEq, Eq)]
+pub enum ObjectKind {
+    /// Nothing more. So is each `C::new`.
+    Plain,
+    /// It may be named in the bodies of predicates.
+    Atom,
+    /// It may be, and it is a literal of the enum of this class number.
+    LiteralOf(u32),
+}
+
 /// An object of the input, which stands for as many nodes as its count admits. Its number is its
 /// place in the problem's list of objects, from 0.
 #[derive(Debug, Drop)]
@@ -16,4 +27,5 @@ pub struct ObjectDecl {
     pub name: ObjectName,
     /// Its count as declared, before assertions on `exists` and `equals`.
     pub count: Count,
+    pub kind: ObjectKind,
 }

@@ -1,9 +1,8 @@
 //! The parts of a problem by their numbers.
 
 ghost use Rattle.std.specs.Prelude.{◌≡◌, ◌<◌, length};
-ghost use Rattle.rf_problem.specs.Asserted.{object_at};
+ghost use Rattle.rf_problem.specs.Parts.{is_contains, object_at, predicate_at, reference_at, scope_at};
 ghost use Rattle.rf_problem.specs.Classes.{class_at};
-ghost use Rattle.rf_problem.specs.Parts.{is_contains, predicate_at, reference_at, scope_at};
 
 use crate::{Class, ObjectDecl, Predicate, Problem, RefKind, Reference, Scope};
 

@@ -1,7 +1,16 @@
 use crate::Symbol;
 use rf_text::{Items, Text};
 
-/// A part of a clause. An argument is the number of a variable of the clause.
+/// An argument of a literal.
+#[derive(Clone, Copy, Debug, PartialEq, Eq)]
+pub enum Term {
+    /// The variable of this number of the clause.
+    Var(u8),
+    /// Some node of the object of this number, which is an atom; the same at all places of the atom in a literal.
+    Atom(u64),
+}
+
+/// A part of a clause.
 #[derive(Debug, Drop)]
 pub enum Literal {
     Call {
@@ -10,12 +19,12 @@ pub enum Literal {
         closure: bool,
         /// A class, a reference or a predicate.
         symbol: Symbol,
-        args: Items<u8>,
+        args: Items<Term>,
     },
-    /// Two variables stand for the same node.
-    Same(u8, u8),
-    /// Two variables stand for different nodes.
-    Differ(u8, u8),
+    /// Both stand for the same node.
+    Same(Term, Term),
+    /// They stand for different nodes.
+    Differ(Term, Term),
 }
 
 /// One of the ways in which a predicate holds: all of its literals do.

@@ -9,13 +9,13 @@ pub struct Problem {
     pub classes: Items<Class>,
     pub references: Items<Reference>,
     pub predicates: Items<Predicate>,
-    /// The named objects, and behind them one `C::new` for each class that isn't abstract.
+    /// The named objects, and after them one `C::new` for each class that is neither abstract nor an enum.
     pub objects: Items<ObjectDecl>,
     pub assertions: Items<Assertion>,
     pub scopes: Items<Scope>,
     ghost classes_fit: { AreClasses classes },
     ghost references_fit: { AreReferences classes references },
-    ghost predicates_fit: { ArePredicates classes references predicates },
+    ghost predicates_fit: { ArePredicates classes references objects predicates },
     ghost objects_fit: { AreObjects classes objects },
     ghost assertions_fit: { AreAssertions classes references predicates objects assertions },
     ghost scopes_fit: { AreScopes classes scopes },

@@ -5,10 +5,9 @@ use Rattle.std.specs.List.{list_any}
 use Rattle.std.proofs.lemmas.Bool.{both_ways, eq-eqb, eqb-true, or_cases, or_left, or_right}
 use Rattle.std.proofs.lemmas.List.{length-map}
 use Rattle.std.proofs.lemmas.List.Folds.{Any-from_list_any, list_any-append}
-use Rattle.rf_finite.specs.Walks.{IsWalk}
+use Rattle.rf_finite.specs.Walks.{HasNoCycle, IsWalk}
 use Rattle.rf_finite.proofs.Lists.{list_any-more_pass}
 use Rattle.rf_finite.proofs.Walks.{IsWalk-reverse, walk_below-from_IsWalk}
-use Rattle.rf_problem.specs.Classes.{HasNoCycle}
 use Rattle.rf_problem.specs.Parts.{no_predicate, predicate_at}
 use Rattle.rf_problem.specs.Valid.{calls, calls_predicate}
 use Rattle.rf_problem.specs.declared.predicate.Literal.TheVariants.{Call as Calls}

@@ -6,9 +6,9 @@ use Rattle.std.proofs.lemmas.Bool.{cases_lt}
 use Rattle.std.proofs.lemmas.List.{get_or_past, length-map}
 use Rattle.std.proofs.lemmas.List.Elements.{All-head, All-map, All-tail}
 use Rattle.rf_text.specs.Written.{CanBeQuoted}
-use Rattle.rf_finite.specs.Walks.{walk_below}
+use Rattle.rf_finite.specs.Walks.{HasNoCycle, walk_below}
 use Rattle.rf_finite.proofs.Walks.{walk_below-from_IsWalk}
-use Rattle.rf_problem.specs.Classes.{HasNoCycle, class_at, extends}
+use Rattle.rf_problem.specs.Classes.{class_at, extends}
 use Rattle.rf_problem.specs.Valid.{AreClasses}
 use Rattle.rf_problem.specs.declared.class.Class.{Class}
 use Rattle.rf_syntax.specs.declared.name.Name.{Name}

@@ -6,7 +6,8 @@ use Rattle.rf_graph.specs.First.{has_stranger, may_have_class}
 use Rattle.rf_graph.specs.Graph.{class_of, origin_of, size_of}
 use Rattle.rf_graph.specs.Violations.{nodes_from}
 use Rattle.rf_graph.specs.declared.graph.Graph.{Graph}
-use Rattle.rf_problem.specs.Asserted.{admitted, object_at}
+use Rattle.rf_problem.specs.Asserted.{admitted}
+use Rattle.rf_problem.specs.Parts.{object_at}
 use Rattle.rf_problem.specs.declared.problem.Problem.{Problem}
 use Rattle.rf_values.specs.Count.{contains}
 use Rattle.rf_satisfy.specs.Objects.{CountsNodes, is_native}

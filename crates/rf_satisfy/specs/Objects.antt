@@ -1,7 +1,7 @@
 -- How many nodes come from each object, and which objects have nodes of classes that they may not have.
 use Rattle.std.specs.Prelude.{◌≡◌, ◌<◌, ◌==◌, ◌&&◌, not, ℕ, Bool, false, List, length, slice_index, slice_index_or}
 use Rattle.rf_finite.specs.Range.{count_below, some_below}
-use Rattle.rf_problem.specs.Asserted.{object_at}
+use Rattle.rf_problem.specs.Parts.{object_at}
 use Rattle.rf_problem.specs.declared.problem.Problem.{Problem}
 use Rattle.rf_graph.specs.First.{may_have_class}
 use Rattle.rf_graph.specs.Graph.{class_of, origin_of}

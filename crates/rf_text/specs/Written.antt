@@ -1,6 +1,7 @@
 -- How documents write names.
 use Rattle.std.specs.Prelude.{◌≡◌, ◌≢◌, ℕ, ◌≤◌, Bool, not, ◌||◌, ◌&&◌, ◌==◌, IsTrue, List, [], ◌∷◌, ◌++◌, length, All, if◌then◌else◌}
 use Rattle.std.specs.Str.{chars, is_utf8}
+use Rattle.rf_bounds.specs.declared.TheConstants.{MOST_NAME_BYTES}
 use Rattle.rf_text.specs.Identifier.{is_identifier}
 use Rattle.rf_text.specs.Keyword.{is_keyword}
 
@@ -9,7 +10,7 @@ pub record CanBeQuoted (name : List ℕ) : Type 0 where
   pub no_quote : All (λ b. b ≢ 39) name
   pub no_line_feed : All (λ b. b ≢ 10) name
   pub no_return : All (λ b. b ≢ 13) name
-  pub short : length name ≤ 255
+  pub short : length name ≤ MOST_NAME_BYTES
 
 -- the name is an identifier that isn't a keyword, so it needs no quotes
 unfoldable pub is_bare : List ℕ → Bool

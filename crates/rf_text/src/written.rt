@@ -5,6 +5,7 @@ ghost use Rattle.rf_text.specs.Written.{CanBeQuoted, EndsName, IsWritten, is_bar
 use crate::Text;
 use crate::identifier::is_identifier;
 use crate::keyword::is_keyword;
+use rf_bounds::MOST_NAME_BYTES;
 use std::alloc::{AllocError, Global};
 
 /// Whether a name may be written between single quotes: it has neither a single quote nor a line feed nor
@@ -12,7 +13,7 @@ use std::alloc::{AllocError, Global};
 pub fn can_be_quoted(name: &[u8]) -> bool
     ensures { IsTrue result ↔ CanBeQuoted name.now }
 {
-    name.len() <= 255
+    name.len() <= MOST_NAME_BYTES
         && name
             .iter()
             .all(|byte| *byte != b'\'' && *byte != b'\n' && *byte != b'\r')

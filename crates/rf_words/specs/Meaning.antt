@@ -1,6 +1,7 @@
 -- Which words are which command.
 use Rattle.std.specs.Prelude.{◌≡◌, ℕ, ◌≤◌, ◌-◌, ◌^◌, false, List, [], ◌∷◌, Some, codes, decimal}
 use Rattle.rf_words.specs.Arguments.{Text, said, values_of}
+use Rattle.rf_words.specs.declared.request.TheConstants.{DEFAULT_BUDGET, DEFAULT_SEED, MOST_BUDGET, MOST_GROWTH}
 use Rattle.rf_words.specs.declared.request.Command.{Command}
 use Rattle.rf_words.specs.declared.request.Command.TheVariants.{Generate, Check, Verify, Evaluate, Session, Grow}
 
@@ -39,12 +40,12 @@ HasNumber _ least most default n = ⊥
 -- the numbers are within their limits, and those of options are what the options' values say
 abbrev pub HasNumbers : Command → List (Text × Text) → Type 0
 HasNumbers (Generate file seed budget json) values =
-    HasNumber (values_of (codes "seed") values) 0 (2 ^ 64 - 1) 0 seed
-    × HasNumber (values_of (codes "budget") values) 1 1000000 10000 budget × (json ≡ false)
-HasNumbers (Grow n) values = (1 ≤ n) × (n ≤ 200)
+    HasNumber (values_of (codes "seed") values) 0 (2 ^ 64 - 1) DEFAULT_SEED seed
+    × HasNumber (values_of (codes "budget") values) 1 MOST_BUDGET DEFAULT_BUDGET budget × (json ≡ false)
+HasNumbers (Grow n) values = (1 ≤ n) × (n ≤ MOST_GROWTH)
 HasNumbers _ values = Unit {0}
 
--- the words behind a command's name are those of this command
+-- the words after a command's name are those of this command
 abbrev pub IsRequest : List Text → Command → Type 0
 IsRequest words c = (values : List (Text × Text))
     × (said (options_of c) words ≡ Some (record { plain = plain_of c; values = values }))

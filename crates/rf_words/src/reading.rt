@@ -3,15 +3,10 @@ ghost use Rattle.rf_words.specs.Meaning.{IsCommand, SaysPlain};
 
 use crate::options::checked;
 use crate::parse::{number, one_plain, parse, two_plain};
+use crate::request::{DEFAULT_BUDGET, DEFAULT_SEED, MOST_BUDGET, MOST_GROWTH};
 use crate::{Command, WordsError};
 use rf_text::{Text, read_number};
 use std::alloc::Global;
-
-const DEFAULT_BUDGET: u64 = 10_000;
-
-const MOST_BUDGET: u64 = 1_000_000;
-
-const MOST_GROWTH: u64 = 200;
 
 fn generate(alloc: Global, arguments: &[Text]) -> Result<Command, WordsError>
     ensures ok { IfOk result (λ c. IsCommand (codes "generate" ∷ arguments.now) c) }
@@ -30,7 +25,7 @@ fn generate(alloc: Global, arguments: &[Text]) -> Result<Command, WordsError>
     let Some(file) = one_plain(&matches) else {
         return Err(WordsError::Usage);
     };
-    let Some(seed) = number(&matches, "seed", 0, u64::MAX, 0) else {
+    let Some(seed) = number(&matches, "seed", 0, u64::MAX, DEFAULT_SEED) else {
         return Err(WordsError::Usage);
     };
     let Some(budget) = number(&matches, "budget", 1, MOST_BUDGET, DEFAULT_BUDGET) else {
@@ -174,7 +169,7 @@ fn read(alloc: Global, words: &[Text]) -> Result<Command, WordsError>
     }
 }
 
-/// The command that the words are, behind the program's name.
+/// The command that the words after the program's name are.
 pub fn command(alloc: Global, words: &[Text]) -> Result<Command, WordsError>
     ensures ok { IfOk result (λ c. IsCommand words.now c) }
     ensures found { (c : _) → IsCommand words.now c

@@ -1,5 +1,17 @@
 use rf_text::Text;
 
+/// The seed where no option names one.
+pub const DEFAULT_SEED: u64 = 0;
+
+/// How many decisions a search may take where no option says so.
+pub const DEFAULT_BUDGET: u64 = 10_000;
+
+/// The greatest budget.
+pub const MOST_BUDGET: u64 = 1_000_000;
+
+/// The greatest size of a grown problem.
+pub const MOST_GROWTH: u64 = 200;
+
 /// A command, with what its words name.
 #[derive(Debug, Drop)]
 pub enum Command {

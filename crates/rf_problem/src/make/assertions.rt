@@ -6,8 +6,7 @@ ghost use Rattle.rf_problem.specs.Valid.{AreAssertions, FitsAssertion};
 
 use super::symbols::Declared;
 use crate::{Assertion, Class, ObjectDecl, Predicate, Reference};
-
-const MOST_ASSERTIONS: usize = 65_536;
+use rf_bounds::MOST_ASSERTIONS;
 
 fn is_object(arg: Option<u64>, objects: u64) -> bool
     ensures { IsTrue result ↔ ForSome arg (λ o. o < objects) }
@@ -52,6 +51,7 @@ pub fn are_assertions(
     let declared = Declared {
         classes: classes.len(),
         references: references.len(),
+        objects,
         predicates,
     };
     assertions.len() <= MOST_ASSERTIONS && all_fit(&declared, objects.len() as u64, assertions)

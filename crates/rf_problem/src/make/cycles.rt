@@ -2,7 +2,7 @@
 
 ghost use Rattle.std.specs.Prelude.{◌≡◌, ◌<◌, ◌≤◌, ◌↔◌, ◌==◌, ◌&&◌, not, ℕ, Bool, true, nat_lt, IsTrue};
 ghost use Rattle.std.specs.FinSet.{contains};
-ghost use Rattle.rf_problem.specs.Classes.{HasNoCycle};
+ghost use Rattle.rf_finite.specs.Walks.{HasNoCycle};
 ghost use Rattle.rf_problem.specs.Cycles.{AreOffCycles, IsWithin, LeadsInto};
 
 use rf_values::ClassSet;

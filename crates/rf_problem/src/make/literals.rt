@@ -2,10 +2,10 @@
 
 ghost use Rattle.std.specs.Prelude.{◌≡◌, None, slice_index_or};
 ghost use Rattle.std.specs.List.{list_all};
-ghost use Rattle.rf_problem.specs.Valid.{fit_literals, fits_literal, is_free, may_stand, ranges_over};
+ghost use Rattle.rf_problem.specs.Valid.{fit_literals, fits_literal, fits_term, is_free, may_stand, ranges_over};
 
 use super::symbols::Declared;
-use crate::{Literal, Symbol};
+use crate::{Literal, Term};
 
 /// Whether a variable with this entry ranges over the clause.
 pub fn is_free(entry: Option<u8>) -> bool
@@ -40,10 +40,28 @@ fn may_stand(variables: &[Option<u8>], number: usize, negated: bool, variable: u
         && ranges_over(entry_of(variables, variable), number, negated)
 }
 
-fn may_all_stand(variables: &[Option<u8>], number: usize, negated: bool, args: &[u8]) -> bool
-    ensures { result ≡ list_all (may_stand variables.now number negated) args.now }
+// A literal of a clause with these variables, as its terms see it.
+#[derive(Drop)]
+struct Place<'a> {
+    variables: &'a [Option<u8>],
+    // The number of the literal.
+    number: usize,
+    negated: bool,
+}
+
+fn fits_term(declared: &Declared, place: &Place, term: Term) -> bool
+    ensures { result ≡ fits_term declared.now.objects.now place.now.variables.now place.now.number place.now.negated term }
 {
-    args.iter().all(|variable| may_stand(variables, number, negated, *variable))
+    match term {
+        Term::Var(variable) => may_stand(place.variables, place.number, place.negated, variable),
+        Term::Atom(object) => declared.is_atom(object),
+    }
+}
+
+fn fit_terms(declared: &Declared, place: &Place, terms: &[Term]) -> bool
+    ensures { result ≡ list_all (fits_term declared.now.objects.now place.now.variables.now place.now.number place.now.negated) terms.now }
+{
+    terms.iter().all(|term| fits_term(declared, place, *term))
 }
 
 // Whether literal `number` fits.
@@ -53,7 +71,7 @@ fn fits_literal(
     number: usize,
     literal: &Literal,
 ) -> bool
-    ensures { result ≡ fits_literal declared.now.classes declared.now.references declared.now.predicates.now variables.now number literal.now }
+    ensures { result ≡ fits_literal declared.now.classes declared.now.references declared.now.objects.now declared.now.predicates.now variables.now number literal.now }
 {
     match literal {
         Literal::Call {
@@ -62,20 +80,30 @@ fn fits_literal(
             symbol,
             args,
         } => {
+            let place = Place {
+                variables,
+                number,
+                negated: *negated,
+            };
             declared.is_declared(*symbol)
                 && args.len() == declared.arity_of(*symbol)
                 && (!*closure || declared.has_steps(*symbol))
-                && may_all_stand(variables, number, *negated, args)
+                && fit_terms(declared, &place, args)
         }
         Literal::Same(a, b) | Literal::Differ(a, b) => {
-            may_stand(variables, number, false, *a) && may_stand(variables, number, false, *b)
+            let place = Place {
+                variables,
+                number,
+                negated: false,
+            };
+            fits_term(declared, &place, *a) && fits_term(declared, &place, *b)
         }
     }
 }
 
 /// Whether the literals of a clause with these variables fit.
 pub fn fit_literals(declared: &Declared, variables: &[Option<u8>], literals: &[Literal]) -> bool
-    ensures { result ≡ fit_literals declared.now.classes declared.now.references declared.now.predicates.now variables.now 0 literals.now }
+    ensures { result ≡ fit_literals declared.now.classes declared.now.references declared.now.objects.now declared.now.predicates.now variables.now 0 literals.now }
 {
     for number in 0..literals.len() {
         if !fits_literal(declared, variables, number, &literals[number]) {

@@ -1,16 +1,17 @@
 //! What the objects of every problem keep.
 
-ghost use Rattle.std.specs.Prelude.{◌≡◌, ◌≢◌, ◌≤◌, ◌++◌, ◌↔◌, All, IsTrue, length, map};
+ghost use Rattle.std.specs.Prelude.{◌≡◌, ◌≢◌, ◌≤◌, ◌++◌, ◌↔◌, ◌&&◌, nat_lt, All, IsTrue, length, map};
 ghost use Rattle.rf_text.specs.Written.{CanBeQuoted};
-ghost use Rattle.rf_problem.specs.Valid.{AreObjects, HasName, IsSmall, concrete_numbers, is_named, named_objects, new_object};
+ghost use Rattle.rf_problem.specs.Classes.{class_at};
+ghost use Rattle.rf_problem.specs.Valid.{AreObjects, HasName, FitsCount, IsSmall, fits_kind, has_new, is_named, named_objects, new_numbers, new_object};
 
 use super::apart::{Apart, are_apart};
 use super::counts::is_small;
-use crate::{Class, ObjectDecl, ObjectName};
+use crate::stock::has_new;
+use crate::{Class, ObjectDecl, ObjectKind, ObjectName};
+use rf_bounds::MOST_OBJECTS;
 use rf_text::can_be_quoted;
 use rf_values::Count;
-
-const MOST_NAMED: usize = 4096;
 
 impl Apart for ObjectDecl {
     ghost AreApart = { λ o q. HasName o.name (λ name. HasName q.name (λ other. name ≢ other)) };
@@ -60,39 +61,89 @@ fn have_small_counts(objects: &[ObjectDecl]) -> bool
     objects.iter().all(|object| is_small(object.count))
 }
 
+fn is_enum(classes: &[Class], class: u32) -> bool
+    ensures { result ≡ (nat_lt class (length classes.now) && (class_at classes.now class).is_enum) }
+{
+    match classes.get(class as usize) {
+        Some(class) => class.is_enum,
+        None => false,
+    }
+}
+
+// Whether an object of this name may be of this kind.
+fn has_kind(classes: &[Class], object: &ObjectDecl) -> bool
+    ensures { result ≡ fits_kind classes.now object.now.name object.now.kind }
+{
+    match object.kind {
+        ObjectKind::Plain => true,
+        ObjectKind::Atom => is_named(object),
+        ObjectKind::LiteralOf(class) => is_named(object) && is_enum(classes, class),
+    }
+}
+
+fn have_kinds(classes: &[Class], objects: &[ObjectDecl]) -> bool
+    ensures { IsTrue result ↔ All (λ o. IsTrue (fits_kind classes.now o.name o.kind)) objects.now }
+{
+    objects.iter().all(|object| has_kind(classes, object))
+}
+
+// Whether an object has the count of its kind.
+fn has_count(object: &ObjectDecl) -> bool
+    ensures { IsTrue result ↔ FitsCount object.now.kind object.now.count }
+{
+    let one = Count {
+        lo: 1,
+        hi: Some(1),
+    };
+    match object.kind {
+        ObjectKind::Plain => true,
+        ObjectKind::Atom | ObjectKind::LiteralOf(_) => object.count == one,
+    }
+}
+
+fn have_counts(objects: &[ObjectDecl]) -> bool
+    ensures { IsTrue result ↔ All (λ o. FitsCount o.kind o.count) objects.now }
+{
+    objects.iter().all(has_count)
+}
+
 fn is_new_object(object: &ObjectDecl, class: u32) -> bool
     ensures { IsTrue result ↔ (object.now ≡ new_object class) }
 {
     match object.name {
         ObjectName::Named(_) => false,
-        ObjectName::NewOf(number) => number == class && object.count == Count { lo: 0, hi: None },
+        ObjectName::NewOf(number) => {
+            number == class
+                && object.count == Count { lo: 0, hi: None }
+                && object.kind == ObjectKind::Plain
+        }
     }
 }
 
 // Whether they are the objects that the new nodes of these classes come from.
 fn are_stock(classes: &[Class], objects: &[ObjectDecl]) -> bool
     requires { length classes.now ≤ 256 }
-    ensures { IsTrue result ↔ (objects.now ≡ map new_object (concrete_numbers 0 classes.now)) }
+    ensures { IsTrue result ↔ (objects.now ≡ map new_object (new_numbers 0 classes.now)) }
 {
     let mut rest = objects;
     for (number, class) in classes.iter().enumerate() {
-        if !class.is_abstract {
-            let Some((first, behind)) = rest.split_first() else {
+        if has_new(class) {
+            let Some((first, others)) = rest.split_first() else {
                 return false;
             };
             if !is_new_object(first, number as u32) {
                 return false;
             }
-            rest = behind;
+            rest = others;
         }
     }
     rest.is_empty()
 }
 
-// Whether behind the named objects stand those that the new nodes come from, and nothing else.
+// Whether after the named objects come those that the new nodes come from, and nothing else.
 fn are_stocked(classes: &[Class], objects: &[ObjectDecl]) -> bool
     requires { length classes.now ≤ 256 }
-    ensures { IsTrue result ↔ (objects.now ≡ named_objects objects.now ++ map new_object (concrete_numbers 0 classes.now)) }
+    ensures { IsTrue result ↔ (objects.now ≡ named_objects objects.now ++ map new_object (new_numbers 0 classes.now)) }
 {
     are_stock(classes, &objects[count_named(objects)..])
 }
@@ -102,11 +153,14 @@ pub fn are_objects(classes: &[Class], objects: &[ObjectDecl]) -> bool
     requires { length classes.now ≤ 256 }
     ensures { IsTrue result ↔ AreObjects classes.now objects.now }
 {
-    if count_named(objects) > MOST_NAMED {
+    if count_named(objects) > MOST_OBJECTS {
         return false;
     }
     if !have_names(objects) || !are_apart(objects) {
         return false;
     }
-    have_small_counts(objects) && are_stocked(classes, objects)
+    if !have_small_counts(objects) || !have_kinds(classes, objects) {
+        return false;
+    }
+    have_counts(objects) && are_stocked(classes, objects)
 }

@@ -3,8 +3,9 @@
 ghost use Rattle.std.specs.Prelude.{◌≡◌, ◌≤◌, ◌↔◌, All, IsTrue, length, take};
 ghost use Rattle.std.specs.FinSet.{contains};
 ghost use Rattle.std.specs.List.{list_all, list_any};
+ghost use Rattle.rf_bounds.specs.declared.TheConstants.{MOST_CLAUSES, MOST_PARAMETERS};
 ghost use Rattle.rf_text.specs.Written.{CanBeQuoted};
-ghost use Rattle.rf_problem.specs.Classes.{HasNoCycle};
+ghost use Rattle.rf_finite.specs.Walks.{HasNoCycle};
 ghost use Rattle.rf_problem.specs.Calling.{calls_one_of, clause_calls_one_of};
 ghost use Rattle.rf_problem.specs.Parts.{predicate_at};
 ghost use Rattle.rf_problem.specs.Valid.{ArePredicates, FitsClause, calls, is_free};
@@ -12,19 +13,10 @@ ghost use Rattle.rf_problem.specs.Valid.{ArePredicates, FitsClause, calls, is_fr
 use super::cycles::{Edges, has_no_cycle};
 use super::literals::{fit_literals, is_free};
 use super::symbols::Declared;
-use crate::{Class, Clause, Literal, Predicate, Reference, Symbol};
+use crate::{Class, Clause, Literal, ObjectDecl, Predicate, Reference, Symbol};
+use rf_bounds::{MOST_CLAUSES, MOST_LITERALS, MOST_PARAMETERS, MOST_PREDICATES, MOST_VARIABLES};
 use rf_text::can_be_quoted;
 use rf_values::ClassSet;
-
-const MOST_PREDICATES: usize = 256;
-
-const MOST_CLAUSES: usize = 64;
-
-const MOST_PARAMETERS: u8 = 4;
-
-const MOST_VARIABLES: usize = 8;
-
-const MOST_LITERALS: usize = 32;
 
 // From each predicate an edge leads to each that it calls directly.
 #[derive(Drop)]
@@ -86,15 +78,15 @@ fn are_named(predicates: &[Predicate]) -> bool
 }
 
 fn have_few_parameters(predicates: &[Predicate]) -> bool
-    ensures { IsTrue result ↔ All (λ p. p.arity ≤ 4) predicates.now }
+    ensures { IsTrue result ↔ All (λ p. p.arity ≤ MOST_PARAMETERS) predicates.now }
 {
     predicates
         .iter()
-        .all(|predicate| predicate.arity <= MOST_PARAMETERS)
+        .all(|predicate| predicate.arity as usize <= MOST_PARAMETERS)
 }
 
 fn have_few_clauses(predicates: &[Predicate]) -> bool
-    ensures { IsTrue result ↔ All (λ p. length p.clauses ≤ 64) predicates.now }
+    ensures { IsTrue result ↔ All (λ p. length p.clauses ≤ MOST_CLAUSES) predicates.now }
 {
     predicates
         .iter()
@@ -108,7 +100,7 @@ fn are_free(entries: &[Option<u8>]) -> bool
 }
 
 fn fits_clause(declared: &Declared, arity: u8, clause: &Clause) -> bool
-    ensures { IsTrue result ↔ FitsClause declared.now.classes declared.now.references declared.now.predicates.now arity clause.now }
+    ensures { IsTrue result ↔ FitsClause declared.now.classes declared.now.references declared.now.objects.now declared.now.predicates.now arity clause.now }
 {
     if clause.variables.len() > MOST_VARIABLES {
         return false;
@@ -124,7 +116,7 @@ fn fits_clause(declared: &Declared, arity: u8, clause: &Clause) -> bool
 }
 
 fn has_fitting_clauses(declared: &Declared, predicate: &Predicate) -> bool
-    ensures { IsTrue result ↔ All (FitsClause declared.now.classes declared.now.references declared.now.predicates.now predicate.now.arity) predicate.now.clauses }
+    ensures { IsTrue result ↔ All (FitsClause declared.now.classes declared.now.references declared.now.objects.now declared.now.predicates.now predicate.now.arity) predicate.now.clauses }
 {
     predicate
         .clauses
@@ -133,7 +125,7 @@ fn has_fitting_clauses(declared: &Declared, predicate: &Predicate) -> bool
 }
 
 fn have_fitting_clauses(declared: &Declared) -> bool
-    ensures { IsTrue result ↔ All (λ p. All (FitsClause declared.now.classes declared.now.references declared.now.predicates.now p.arity) p.clauses) declared.now.predicates.now }
+    ensures { IsTrue result ↔ All (λ p. All (FitsClause declared.now.classes declared.now.references declared.now.objects.now declared.now.predicates.now p.arity) p.clauses) declared.now.predicates.now }
 {
     declared
         .predicates
@@ -141,9 +133,14 @@ fn have_fitting_clauses(declared: &Declared) -> bool
         .all(|predicate| has_fitting_clauses(declared, predicate))
 }
 
-/// Whether they are what the predicates of every problem of these classes and references are.
-pub fn are_predicates(classes: &[Class], references: &[Reference], predicates: &[Predicate]) -> bool
-    ensures { IsTrue result ↔ ArePredicates classes.now references.now predicates.now }
+/// Whether they are what the predicates of every problem of these classes, references and objects are.
+pub fn are_predicates(
+    classes: &[Class],
+    references: &[Reference],
+    objects: &[ObjectDecl],
+    predicates: &[Predicate],
+) -> bool
+    ensures { IsTrue result ↔ ArePredicates classes.now references.now objects.now predicates.now }
 {
     if predicates.len() > MOST_PREDICATES {
         return false;
@@ -154,6 +151,7 @@ pub fn are_predicates(classes: &[Class], references: &[Reference], predicates: &
     let declared = Declared {
         classes: classes.len(),
         references: references.len(),
+        objects,
         predicates,
     };
     if !have_few_clauses(predicates) || !have_fitting_clauses(&declared) {

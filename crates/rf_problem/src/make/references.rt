@@ -9,9 +9,8 @@ ghost use Rattle.rf_problem.specs.Valid.{AreMirrored, AreReferences, IsSmall};
 use super::apart::{Apart, are_apart};
 use super::counts::is_small;
 use crate::{Class, Reference};
+use rf_bounds::MOST_REFERENCES;
 use rf_text::can_be_quoted;
-
-const MOST_REFERENCES: usize = 512;
 
 impl Apart for Reference {
     ghost AreApart = { λ r s. r.source ≡ s.source → r.name ≢ s.name };

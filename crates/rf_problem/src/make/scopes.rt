@@ -6,8 +6,7 @@ ghost use Rattle.rf_problem.specs.Valid.{AreScopes, IsSmall};
 
 use super::counts::is_small;
 use crate::{Class, Scope};
-
-const MOST_SCOPES: usize = 256;
+use rf_bounds::MOST_SCOPES;
 
 fn has_class(scope: &Scope, classes: usize) -> bool
     ensures { IsTrue result ↔ ForSome scope.now.class (λ c. c < classes) }

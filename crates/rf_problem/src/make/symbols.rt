@@ -1,20 +1,40 @@
 //! Which symbols there are.
 
-ghost use Rattle.std.specs.Prelude.{◌≡◌, length};
-ghost use Rattle.rf_problem.specs.Parts.{arity_of, predicate_at};
-ghost use Rattle.rf_problem.specs.Valid.{has_steps, is_asserted, is_declared};
+ghost use Rattle.std.specs.Prelude.{◌≡◌, ◌&&◌, length, nat_lt};
+ghost use Rattle.rf_problem.specs.Parts.{arity_of, object_at, predicate_at};
+ghost use Rattle.rf_problem.specs.Valid.{has_steps, is_asserted, is_atom, is_declared};
 
-use crate::{Predicate, Symbol};
+use crate::{ObjectDecl, ObjectKind, Predicate, Symbol};
 
-/// How many classes and references there are, and the predicates.
+/// How many classes and references there are, the objects and the predicates.
 #[derive(Drop)]
 pub struct Declared<'a> {
     pub classes: usize,
     pub references: usize,
+    pub objects: &'a [ObjectDecl],
     pub predicates: &'a [Predicate],
 }
 
+fn is_atom(kind: ObjectKind) -> bool
+    ensures { result ≡ is_atom kind }
+{
+    match kind {
+        ObjectKind::Plain => false,
+        ObjectKind::Atom | ObjectKind::LiteralOf(_) => true,
+    }
+}
+
 impl Declared<'_> {
+    /// Whether an object is there and may be named in bodies.
+    pub fn is_atom(&self, object: u64) -> bool
+        ensures { result ≡ (nat_lt object (length self.now.objects.now) && is_atom (object_at self.now.objects.now object).kind) }
+    {
+        match self.objects.get(object as usize) {
+            Some(object) => is_atom(object.kind),
+            None => false,
+        }
+    }
+
     /// Whether a symbol stands for a class, a reference or a predicate that is there.
     pub fn is_declared(&self, symbol: Symbol) -> bool
         ensures { result ≡ is_declared self.now.classes self.now.references (length self.now.predicates.now) symbol }

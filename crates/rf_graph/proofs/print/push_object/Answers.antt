@@ -1,6 +1,6 @@
 use Rattle.std.proofs.Common.{◌≡◌, ◌∙◌, ◌++◌, sym, ap, subst, get_or, OnOk}
 use Rattle.std.proofs.lemmas.List.{get_or_default}
-use Rattle.rf_problem.specs.Asserted.{no_object, object_at}
+use Rattle.rf_problem.specs.Parts.{no_object, object_at}
 use Rattle.rf_problem.specs.declared.object.ObjectName.TheVariants.{Named, NewOf}
 use Rattle.rf_graph.specs.Document.{written_object}
 use Rattle.rf_graph.proofs.ProblemNames.{new_class, new_pushed, object_name-read}
