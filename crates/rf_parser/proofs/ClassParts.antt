@@ -14,7 +14,7 @@ use Rattle.rf_syntax.specs.declared.non_empty.NonEmpty.{NonEmpty}
 use Rattle.rf_syntax.specs.declared.name.Name.{Name}
 use Rattle.rf_syntax.specs.declared.range.Mult.{Mult}
 use Rattle.rf_syntax.specs.declared.statement.Statement.{Statement}
-use Rattle.rf_syntax.specs.declared.statement.Statement.TheVariants.{Class, Predicate, Declare, Multi, Scope, Assert}
+use Rattle.rf_syntax.specs.declared.statement.Statement.TheVariants.{Class, Enum, Predicate, Declare, Multi, Atoms, Scope, Assert}
 use Rattle.rf_syntax.specs.Class.{body_pieces, feature_pieces, feature_word_pieces}
 use Rattle.rf_syntax.specs.Name.{kind_of_name, name_pieces}
 use Rattle.rf_syntax.specs.Parts.{flagged, optional, optional_after, separated}
@@ -278,8 +278,10 @@ class_case next begins = record {
   cases : (s : Statement) → ((p : Bool × (Unit {0} × (Name × (Option (NonEmpty Name) × Option (List Feature))))) × (Class p.0 p.1.1.0 p.1.1.1.0 p.1.1.1.1 ≡ s)) ⊎ Begins statement_pieces never next s
   cases (Class a n s b) = inl ((a, (tt, (n, (s, b)))), refl)
   cases (Predicate a n p c) = inr (λ more h e. predicate (begun (Predicate a n p c) more next e))
+  cases (Enum n ls) = inr (λ more h e. not_both _ (λ x. cc) (λ x. cc) e)
   cases (Declare names) = inr (λ more h e. not_both _ (λ x. cc) (λ x. cc) e)
   cases (Multi items) = inr (λ more h e. not_both _ (λ x. cc) (λ x. cc) e)
+  cases (Atoms names) = inr (λ more h e. not_both _ (λ x. cc) (λ x. cc) e)
   cases (Scope bounds) = inr (λ more h e. not_both _ (λ x. cc) (λ x. cc) e)
   cases (Assert b a) = inr (λ more h e. (begun (Assert b a) more next e).no_class begins)
 

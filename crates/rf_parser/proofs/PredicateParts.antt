@@ -11,7 +11,7 @@ use Rattle.rf_syntax.specs.declared.predicate.Param.{Param}
 use Rattle.rf_syntax.specs.declared.predicate.PredicateWord.{PredicateWord}
 use Rattle.rf_syntax.specs.declared.predicate.PredicateWord.TheVariants.{Pred, Error, ErrorPred}
 use Rattle.rf_syntax.specs.declared.statement.Statement.{Statement}
-use Rattle.rf_syntax.specs.declared.statement.Statement.TheVariants.{Class, Predicate, Declare, Multi, Scope, Assert}
+use Rattle.rf_syntax.specs.declared.statement.Statement.TheVariants.{Class, Enum, Predicate, Declare, Multi, Atoms, Scope, Assert}
 use Rattle.rf_syntax.specs.Name.{name_pieces}
 use Rattle.rf_syntax.specs.Parts.{flagged, optional, optional_after, separated}
 use Rattle.rf_syntax.specs.Piece.{Piece, kinds_of, terminal}
@@ -188,8 +188,10 @@ predicate_case next begins = record {
   cases (Class true n s b) = inr (λ more h e. not_both _ (λ x. cc) (λ x. cc) e)
   cases (Class false n s b) = inr (λ more h e. not_both _ (λ x. cc) (λ x. cc) e)
   cases (Predicate start name params clauses) = inl ((start, (name, (params, (tt, (clauses, tt))))), refl)
+  cases (Enum n ls) = inr (λ more h e. not_both _ (λ x. cc) (λ x. cc) e)
   cases (Declare names) = inr (λ more h e. not_both _ (λ x. cc) (λ x. cc) e)
   cases (Multi items) = inr (λ more h e. not_both _ (λ x. cc) (λ x. cc) e)
+  cases (Atoms names) = inr (λ more h e. not_both _ (λ x. cc) (λ x. cc) e)
   cases (Scope bounds) = inr (λ more h e. not_both _ (λ x. cc) (λ x. cc) e)
   cases (Assert b a) = inr (λ more h e. (begun (Assert b a) more next e).no_predicate begins)
 

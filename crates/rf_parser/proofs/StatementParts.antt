@@ -8,7 +8,7 @@ use Rattle.rf_syntax.specs.declared.range.Upper.TheVariants.{Absent}
 use Rattle.rf_syntax.specs.declared.statement.Bound.{Bound}
 use Rattle.rf_syntax.specs.declared.statement.Item.{Item}
 use Rattle.rf_syntax.specs.declared.statement.Statement.{Statement}
-use Rattle.rf_syntax.specs.declared.statement.Statement.TheVariants.{Class, Predicate, Declare, Multi, Scope, Assert}
+use Rattle.rf_syntax.specs.declared.statement.Statement.TheVariants.{Class, Enum, Predicate, Declare, Multi, Atoms, Scope, Assert}
 use Rattle.rf_syntax.specs.Name.{name_pieces}
 use Rattle.rf_syntax.specs.Parts.{optional_after, separated}
 use Rattle.rf_syntax.specs.Piece.{Piece}
