@@ -16,11 +16,12 @@ use denote.Ref.{Bor}
 use Rattle.rf_syntax.specs.declared.name.Name.{Name}
 use Rattle.rf_syntax.specs.declared.predicate.BodyLiteral.{BodyLiteral}
 use Rattle.rf_syntax.specs.declared.predicate.Param.{Param}
-use Rattle.rf_names.specs.Bodies.{clause_names, is_loose, loose_variables, param_names}
-use Rattle.rf_names.specs.Declarations.{PredicateDecl}
+use Rattle.rf_names.specs.Bodies.{clause_names, is_loose, loose_variables}
+use Rattle.rf_names.specs.Declarations.{param_names, PredicateDecl}
 use Rattle.rf_names.specs.Offsets.{least_of, lesser, offset_if, offsets_in_clauses}
-use Rattle.rf_names.specs.LookUp.{first_of_each, is_blank, reads}
-use Rattle.rf_clause_rules.specs.Occurrences.{behind_literal, behind_literals, is_loose_occurrence, named_among, named_in, occurrence_in, occurrence_of}
+use Rattle.rf_names.specs.LookUp.{first_of_each}
+use Rattle.rf_names.specs.Texts.{is_blank, reads}
+use Rattle.rf_clause_rules.specs.Occurrences.{after_literal, after_literals, is_loose_occurrence, named_among, named_in, occurrence_in, occurrence_of}
 use Rattle.rf_clause_rules.specs.declared.occurrence.Occurrence.{Occurrence}
 use Rattle.rf_clause_rules.specs.declared.occurrence.Occurrence.TheVariants.{Nowhere, Inside, Loose, Bound}
 use Rattle.rf_names.proofs.MapLemmas.{map_one_more}
@@ -117,24 +118,24 @@ named_both k negated a b text o first second one two =
     ∙ sym (named_or k negated o (reads text a) (reads text b))
 
 -- one literal more
-behind_snoc : (k m : ℕ) (ls : List BodyLiteral) (l : BodyLiteral) (text : List ℕ) (o : Occurrence)
+after_snoc : (k m : ℕ) (ls : List BodyLiteral) (l : BodyLiteral) (text : List ℕ) (o : Occurrence)
     → m ≡ k + length ls →
-    behind_literals k (ls ++ l ∷ []) text o ≡ behind_literal m l text (behind_literals k ls text o)
-behind_snoc k m [] l text o e = let same : k ≡ m = omega arith in
-    ap (λ n. behind_literal n l text o) same
-behind_snoc k m (x ∷ ls) l text o e = behind_snoc (suc k) m ls l text (behind_literal k x text o)
+    after_literals k (ls ++ l ∷ []) text o ≡ after_literal m l text (after_literals k ls text o)
+after_snoc k m [] l text o e = let same : k ≡ m = omega arith in
+    ap (λ n. after_literal n l text o) same
+after_snoc k m (x ∷ ls) l text o e = after_snoc (suc k) m ls l text (after_literal k x text o)
     (omega arith)
 
-pub behind_more : {X : Type 0} (f : X → BodyLiteral) (xs : List X) (i : ℕ) (x : X) (text : List ℕ)
+pub after_more : {X : Type 0} (f : X → BodyLiteral) (xs : List X) (i : ℕ) (x : X) (text : List ℕ)
     (o now new : Occurrence) →
-    i < length xs → x ≡ get_or xs i x → now ≡ behind_literals 0 (map f (take i xs)) text o →
-    new ≡ behind_literal i (f x) text now → new ≡ behind_literals 0 (map f (take (i + 1) xs)) text o
-behind_more f xs i x text o now new below is before step =
+    i < length xs → x ≡ get_or xs i x → now ≡ after_literals 0 (map f (take i xs)) text o →
+    new ≡ after_literal i (f x) text now → new ≡ after_literals 0 (map f (take (i + 1) xs)) text o
+after_more f xs i x text o now new below is before step =
     let long : length (map f (take i xs)) ≡ length (take i xs) = length-map (take i xs) f in
     let short : length (take i xs) ≡ i = length-take-le i xs (omega arith) in
-    step ∙ ap (behind_literal i (f x) text) before
-    ∙ sym (behind_snoc 0 i (map f (take i xs)) (f x) text o (omega arith))
-    ∙ ap (λ ls. behind_literals 0 ls text o) (sym (map_one_more f xs i x below is))
+    step ∙ ap (after_literal i (f x) text) before
+    ∙ sym (after_snoc 0 i (map f (take i xs)) (f x) text o (omega arith))
+    ∙ ap (λ ls. after_literals 0 ls text o) (sym (map_one_more f xs i x below is))
 
 -- the offsets of those that pass
 filtered_offsets : (p q : Name → Bool) → ((n : Name) → p n ≡ q n) → (ns : List Name) →

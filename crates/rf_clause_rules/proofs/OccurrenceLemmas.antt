@@ -6,9 +6,10 @@ use Rattle.std.proofs.lemmas.Bool.{cases_Bool, le-ltb, lt-ltb, ltb-false, ltb-tr
 use Rattle.std.proofs.lemmas.List.Sums.{sum_by-cons}
 use Rattle.rf_syntax.specs.declared.predicate.BodyLiteral.{BodyLiteral}
 use Rattle.rf_syntax.specs.declared.predicate.Param.{Param}
-use Rattle.rf_names.specs.Bodies.{is_negated, names_variable, param_names}
-use Rattle.rf_names.specs.LookUp.{reads}
-use Rattle.rf_clause_rules.specs.Occurrences.{behind_literals, is_loose_occurrence, occurrence_of}
+use Rattle.rf_names.specs.Bodies.{is_negated, names_variable}
+use Rattle.rf_names.specs.Declarations.{param_names}
+use Rattle.rf_names.specs.Texts.{reads}
+use Rattle.rf_clause_rules.specs.Occurrences.{after_literals, is_loose_occurrence, occurrence_of}
 use Rattle.rf_clause_rules.specs.declared.occurrence.Occurrence.TheVariants.{Nowhere, Inside, Loose, Bound}
 
 module _ (text : List ℕ) where
@@ -46,7 +47,7 @@ module _ (text : List ℕ) where
   ]
 
   bound-stays : (k : ℕ) (ls : List BodyLiteral) →
-      is_loose_occurrence (behind_literals k ls text Bound) ≡ false
+      is_loose_occurrence (after_literals k ls text Bound) ≡ false
   bound-stays k [] = refl
   bound-stays k (l ∷ ls) = elim (step-of k l) [
     | gone e ↦ rw e (bound-stays (suc k) ls)
@@ -55,7 +56,7 @@ module _ (text : List ℕ) where
   ]
 
   loose-stays : (k : ℕ) (ls : List BodyLiteral) →
-      is_loose_occurrence (behind_literals k ls text Loose) ≡ list_all leaves_free ls
+      is_loose_occurrence (after_literals k ls text Loose) ≡ list_all leaves_free ls
   loose-stays k [] = refl
   loose-stays k (l ∷ ls) = elim (step-of k l) [
     | gone e ↦ rw e (loose-stays (suc k) ls)
@@ -82,11 +83,11 @@ module _ (text : List ℕ) where
   free-negated m e n = rw (e, n) refl
 
   inside-more : (k j : ℕ) (ls : List BodyLiteral) → j < k →
-      is_loose_occurrence (behind_literals k ls text (Inside j))
+      is_loose_occurrence (after_literals k ls text (Inside j))
       ≡ (list_all leaves_free ls && nat_lt 0 (times ls))
   inside-more k j [] l = refl
   inside-more k j (m ∷ ls) l = elim (step-of k m) [
-    | gone e ↦ (let first : is_loose_occurrence (behind_literals k (m ∷ ls) text (Inside j))
+    | gone e ↦ (let first : is_loose_occurrence (after_literals k (m ∷ ls) text (Inside j))
         ≡ (list_all leaves_free ls && nat_lt 0 (times ls)) =
         rw e (inside-more (suc k) j ls (omega arith)) in
         first ∙ still_free m ls (nat_lt 0 (times ls)) (nat_lt 0 (times (m ∷ ls)))
@@ -94,7 +95,7 @@ module _ (text : List ℕ) where
     | free e n ↦ (let count = times-there m ls e in
         let some : nat_lt 0 (times (m ∷ ls)) ≡ true = lt-ltb 0 (times (m ∷ ls)) (omega arith) in
         let apart : (j == k) ≡ false = ne_eqb j k (λ same. absurd (omega arith)) in
-        let first : is_loose_occurrence (behind_literals k (m ∷ ls) text (Inside j))
+        let first : is_loose_occurrence (after_literals k (m ∷ ls) text (Inside j))
         ≡ list_all leaves_free ls = rw (e, n, apart) (loose-stays (suc k) ls) in
         first ∙ sym (and_true (list_all leaves_free ls))
         ∙ still_free m ls true (nat_lt 0 (times (m ∷ ls))) (free-negated m e n) (sym some))
@@ -108,16 +109,16 @@ module _ (text : List ℕ) where
   ]
 
   nowhere-more : (k : ℕ) (ls : List BodyLiteral) →
-      is_loose_occurrence (behind_literals k ls text Nowhere)
+      is_loose_occurrence (after_literals k ls text Nowhere)
       ≡ (list_all leaves_free ls && nat_lt 1 (times ls))
   nowhere-more k [] = refl
   nowhere-more k (m ∷ ls) = elim (step-of k m) [
-    | gone e ↦ (let first : is_loose_occurrence (behind_literals k (m ∷ ls) text Nowhere)
+    | gone e ↦ (let first : is_loose_occurrence (after_literals k (m ∷ ls) text Nowhere)
         ≡ (list_all leaves_free ls && nat_lt 1 (times ls)) =
         rw e (nowhere-more (suc k) ls) in
         first ∙ still_free m ls (nat_lt 1 (times ls)) (nat_lt 1 (times (m ∷ ls)))
         (free-unnamed m e) (ap (nat_lt 1) (sym (times-gone m ls e))))
-    | free e n ↦ (let first : is_loose_occurrence (behind_literals k (m ∷ ls) text Nowhere)
+    | free e n ↦ (let first : is_loose_occurrence (after_literals k (m ∷ ls) text Nowhere)
         ≡ (list_all leaves_free ls && nat_lt 0 (times ls)) =
         rw (e, n) (inside-more (suc k) k ls (omega arith)) in
         first ∙ still_free m ls (nat_lt 0 (times ls)) (nat_lt 1 (times (m ∷ ls)))

@@ -3,8 +3,8 @@
 ghost use Rattle.std.specs.Prelude.{◌≡◌, ◌&&◌, ℕ, List, IfOk, OnOk, map, not};
 ghost use Rattle.rf_names.specs.Bodies.{loose_variables};
 ghost use Rattle.rf_names.specs.Offsets.{least_of, offset_if};
-ghost use Rattle.rf_names.specs.LookUp.{is_blank};
-ghost use Rattle.rf_clause_rules.specs.Occurrences.{behind_literals, is_loose_occurrence, occurrence_in, occurrence_of};
+ghost use Rattle.rf_names.specs.Texts.{is_blank};
+ghost use Rattle.rf_clause_rules.specs.Occurrences.{after_literals, is_loose_occurrence, occurrence_in, occurrence_of};
 ghost use Rattle.rf_clause_rules.specs.ClauseOffsets.{loose_offsets};
 
 use crate::occurrence::{Occurrence, add_literal, add_params, is_loose, occurrence_in};
@@ -21,7 +21,7 @@ fn add_literals<'a>(
     literals: &[&'a BodyLiteral],
 ) -> Result<(), AllocError>
     ensures { OnOk result ((text : List ℕ) → occurrence_in occurrences.new text
-        ≡ behind_literals 0 (map (λ l. l.now) literals.now) text
+        ≡ after_literals 0 (map (λ l. l.now) literals.now) text
         (occurrence_in occurrences.old text)) }
 {
     for (number, literal) in literals.iter().enumerate() {

@@ -1,9 +1,9 @@
 //! How variables occur in the literals of a clause.
 
 ghost use Rattle.std.specs.Prelude.{◌≡◌, ◌∷◌, [], ℕ, List, OnOk, false, if◌then◌else◌};
-ghost use Rattle.rf_names.specs.Bodies.{param_names};
-ghost use Rattle.rf_names.specs.LookUp.{reads};
-ghost use Rattle.rf_clause_rules.specs.Occurrences.{behind_literal, is_loose_occurrence, named_among, named_in, occurrence_in};
+ghost use Rattle.rf_names.specs.Declarations.{param_names};
+ghost use Rattle.rf_names.specs.Texts.{reads};
+ghost use Rattle.rf_clause_rules.specs.Occurrences.{after_literal, is_loose_occurrence, named_among, named_in, occurrence_in};
 
 use rf_syntax::{BodyLiteral, Name, Param};
 use std::alloc::AllocError;
@@ -122,7 +122,7 @@ pub fn add_literal<'a>(
     literal: &'a BodyLiteral,
 ) -> Result<(), AllocError>
     ensures { OnOk result ((text : List ℕ) → occurrence_in occurrences.new text
-        ≡ behind_literal number literal.now text (occurrence_in occurrences.old text)) }
+        ≡ after_literal number literal.now text (occurrence_in occurrences.old text)) }
 {
     match literal {
         BodyLiteral::Call { negated, args, .. } => {

@@ -3,7 +3,7 @@
 ghost use Rattle.std.specs.Prelude.{◌≡◌, IfOk, OnOk, map};
 ghost use Rattle.std.specs.List.{list_any};
 ghost use Rattle.rf_names.specs.Bodies.{clause_variables, is_variable_of, with_variable, with_variables};
-ghost use Rattle.rf_names.specs.LookUp.{reads};
+ghost use Rattle.rf_names.specs.Texts.{reads};
 ghost use Rattle.rf_names.specs.Offsets.{least_of};
 ghost use Rattle.rf_limits.specs.Limits.{first_past};
 

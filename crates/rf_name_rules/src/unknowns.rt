@@ -2,7 +2,8 @@
 
 ghost use Rattle.std.specs.Prelude.{◌≡◌, ◌∷◌, [], IfOk, codes, slice_index_or, if◌then◌else◌};
 ghost use Rattle.std.specs.List.{flat_map};
-ghost use Rattle.rf_names.specs.LookUp.{assertion_symbols, class_named, is_text_of, no_class_decl, reads, sense_of};
+ghost use Rattle.rf_names.specs.LookUp.{assertion_symbols, class_named, no_class_decl, sense_of};
+ghost use Rattle.rf_names.specs.Texts.{is_text_of, reads};
 ghost use Rattle.rf_names.specs.Offsets.{least_of, offset_if};
 ghost use Rattle.rf_name_rules.specs.RuleOffsets.{is_abstract_class, is_no_object, is_unknown, reserved_names, unknown_arg, unknown_assertion, unknown_bound, unknown_class, unknown_literal, unknown_object, unknown_offsets, unknown_opposite, unknown_param_class, unknown_reference, unknown_symbol};
 

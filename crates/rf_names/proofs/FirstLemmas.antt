@@ -10,7 +10,8 @@ use Rattle.std.specs.Option.{is_none}
 use Rattle.std.specs.Str.{bytes_eq}
 use denote.Ref.{Bor}
 use Rattle.rf_syntax.specs.declared.name.Name.{Name}
-use Rattle.rf_names.specs.LookUp.{first_of_each, is_text_of, reads}
+use Rattle.rf_names.specs.LookUp.{first_of_each}
+use Rattle.rf_names.specs.Texts.{is_text_of, reads}
 
 bytes_eq-sym : (xs ys : List ℕ) → bytes_eq xs ys ≡ bytes_eq ys xs
 bytes_eq-sym xs ys = elim (cases_Bool (bytes_eq xs ys)) [

@@ -12,7 +12,8 @@ use denote.Ref.{Bor}
 use Rattle.rf_syntax.specs.declared.name.Name.{Name}
 use Rattle.rf_syntax.specs.declared.statement.Item.{Item}
 use Rattle.rf_names.specs.Declarations.{ClassDecl, Declared, ReferenceDecl}
-use Rattle.rf_names.specs.LookUp.{class_named, extends_somehow, inherited_members, item_named, members_of_some, no_name, numbers_where, own_members, own_or_inherited, predicate_named, reads, references_named}
+use Rattle.rf_names.specs.LookUp.{class_named, extends_somehow, inherited_members, item_named, members_of_some, no_name, numbers_where, own_members, own_or_inherited, predicate_named, references_named}
+use Rattle.rf_names.specs.Texts.{reads}
 use Rattle.rf_names.specs.Tables.{AreCounts, passes_at}
 use Rattle.rf_names.proofs.ListedLemmas.{numbers_passing, numbers_where-map, numbers_where-same}
 use Rattle.rf_names.proofs.SuperLemmas.{marks_everywhere, position-map}

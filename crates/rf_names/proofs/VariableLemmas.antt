@@ -7,7 +7,8 @@ use Rattle.std.proofs.lemmas.Bool.{and_from, and_parts, both_ways, cases_Bool, l
 use Rattle.std.proofs.lemmas.List.{length-append}
 use Rattle.rf_syntax.specs.declared.name.Name.{Name}
 use Rattle.rf_names.specs.Bodies.{is_variable_of, variable_number, variable_numbers, with_variable, with_variables}
-use Rattle.rf_names.specs.LookUp.{is_blank, reads, the_number}
+use Rattle.rf_names.specs.LookUp.{the_number}
+use Rattle.rf_names.specs.Texts.{is_blank, reads}
 
 -- where some item passes, the first such position is in the list
 pub position_or_len-within : {X : Type 0} (p : X → Bool) (xs : List X) → list_any p xs ≡ true → position_or_len p xs < length xs

@@ -1,8 +1,9 @@
 //! The names in clauses.
 
 ghost use Rattle.std.specs.Prelude.{◌≡◌, ◌++◌, IfOk, OnOk, map};
-ghost use Rattle.rf_names.specs.Bodies.{clause_names, literal_names, param_names};
-ghost use Rattle.rf_names.specs.LookUp.{is_blank, reads};
+ghost use Rattle.rf_names.specs.Bodies.{clause_names, literal_names};
+ghost use Rattle.rf_names.specs.Declarations.{param_names};
+ghost use Rattle.rf_names.specs.Texts.{is_blank, reads};
 
 use crate::gather::push_all;
 use rf_syntax::{BodyLiteral, Name, Param};

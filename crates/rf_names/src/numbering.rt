@@ -1,7 +1,8 @@
 //! Names that have numbers by their order, found without a scan of them all.
 
 ghost use Rattle.std.specs.Prelude.{◌≡◌, [], ◌∷◌, ◌++◌, map, position, IfOk};
-ghost use Rattle.rf_names.specs.LookUp.{first_of_each, reads};
+ghost use Rattle.rf_names.specs.LookUp.{first_of_each};
+ghost use Rattle.rf_names.specs.Texts.{reads};
 ghost use Rattle.rf_names.specs.Tables.{AreNumbered};
 
 use indexmap::IndexMap;

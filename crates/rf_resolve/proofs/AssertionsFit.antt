@@ -26,7 +26,8 @@ use Rattle.rf_syntax.specs.declared.statement.Statement.TheVariants.{Assert, Cla
 use Rattle.rf_limits.specs.declared.kind.LimitKind.TheVariants.{Assertions}
 use Rattle.rf_names.specs.Declarations.{AssertDecl, ClassDecl, Declared, asserted_atom, asserted_truth, assertions_in, declared_in, mentions_in, object_alone, object_in}
 use Rattle.rf_resolve.specs.Passes.{Passes}
-use Rattle.rf_names.specs.LookUp.{assertion_symbols, can_be_closed, class_decl_at, class_named, first_of_each, is_text_of, literal_symbols, named_objects, no_class_decl, no_predicate_decl, object_named, own_symbols, parameters_of, reads, sense_of, symbols_named, symbols_or_members, the_number, the_symbol}
+use Rattle.rf_names.specs.LookUp.{assertion_symbols, can_be_closed, class_decl_at, class_named, first_of_each, literal_symbols, named_objects, no_class_decl, no_predicate_decl, object_named, own_symbols, parameters_of, sense_of, symbols_named, symbols_or_members, the_number, the_symbol}
+use Rattle.rf_names.specs.Texts.{is_text_of, reads}
 use Rattle.rf_name_rules.specs.RuleOffsets.{ambiguous_symbol, assertion_arity, is_abstract_class, is_ambiguous, last_offset, literal_arity, unknown_arg, unknown_assertion, unknown_class, unknown_object, unknown_symbol}
 use Rattle.rf_names.specs.Offsets.{offset_if, offsets_in_literals}
 use Rattle.rf_resolve.specs.Resolved.{object_or_new, resolved_arg, resolved_assertion, resolved_class, resolved_object, resolved_predicate, resolved_reference}

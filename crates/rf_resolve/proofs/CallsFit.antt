@@ -17,9 +17,9 @@ use Rattle.rf_syntax.specs.declared.name.Name.{Name}
 use Rattle.rf_syntax.specs.declared.predicate.BodyLiteral.{BodyLiteral}
 use Rattle.rf_syntax.specs.declared.predicate.BodyLiteral.TheVariants.{Call, Same, Differ}
 use Rattle.rf_syntax.specs.declared.predicate.Param.{Param}
-use Rattle.rf_names.specs.Bodies.{called_by, calls_directly, is_called_from, leads_to, literal_names, param_names, predicate_of, with_variables}
+use Rattle.rf_names.specs.Bodies.{called_by, calls_directly, is_called_from, leads_to, literal_names, predicate_of, with_variables}
+use Rattle.rf_names.specs.Declarations.{Declared, param_names, PredicateDecl}
 use Rattle.rf_names.specs.LookUp.{is_number, literal_symbols, no_predicate_decl, predicate_decl_at, sense_of, the_symbol}
-use Rattle.rf_names.specs.Declarations.{Declared, PredicateDecl}
 use Rattle.rf_clause_rules.specs.ClauseOffsets.{leads_back_to, recursive_literal, recursive_offsets}
 use Rattle.rf_resolve.specs.Resolved.{all_literals, class_literal, class_literals, resolved_clause, resolved_literal, resolved_literals, resolved_predicate}
 use Rattle.rf_names.specs.declared.sense.Sense.{Sense}

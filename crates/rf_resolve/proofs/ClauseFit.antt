@@ -13,8 +13,8 @@ use Rattle.rf_problem.specs.declared.predicate.Literal.TheVariants.{Call as Call
 use Rattle.rf_problem.specs.declared.predicate.Predicate.{Predicate}
 use Rattle.rf_syntax.specs.declared.predicate.BodyLiteral.{BodyLiteral}
 use Rattle.rf_syntax.specs.declared.predicate.Param.{Param}
-use Rattle.rf_names.specs.Bodies.{clause_names, clause_variables, param_names}
-use Rattle.rf_names.specs.Declarations.{Declared}
+use Rattle.rf_names.specs.Bodies.{clause_names, clause_variables}
+use Rattle.rf_names.specs.Declarations.{Declared, param_names}
 use Rattle.rf_name_rules.specs.RuleOffsets.{unknown_param_class}
 use Rattle.rf_resolve.specs.Resolved.{all_literals, class_literals, entry_of, mentions, resolved_clause, resolved_literals}
 use Rattle.rf_resolve.proofs.CallsFit.{predicates_made}

@@ -20,7 +20,8 @@ use Rattle.rf_syntax.specs.declared.predicate.BodyLiteral.TheVariants.{Call, Sam
 use Rattle.rf_syntax.specs.declared.predicate.Param.{Param}
 use Rattle.rf_names.specs.Bodies.{clause_names, literal_names, variable_number, variable_numbers, with_variable, with_variables}
 use Rattle.rf_names.specs.Declarations.{Declared}
-use Rattle.rf_names.specs.LookUp.{can_be_closed, class_named, literal_symbols, parameters_of, reads, sense_of, the_number, the_symbol}
+use Rattle.rf_names.specs.LookUp.{can_be_closed, class_named, literal_symbols, parameters_of, sense_of, the_number, the_symbol}
+use Rattle.rf_names.specs.Texts.{reads}
 use Rattle.rf_name_rules.specs.RuleOffsets.{ambiguous_literal, literal_arity, unknown_literal, unknown_param_class}
 use Rattle.rf_resolve.specs.Resolved.{class_literal, class_literals, resolved_literal, resolved_literals}
 use Rattle.rf_resolve.proofs.CallsFit.{predicate_at-made, predicates_made}

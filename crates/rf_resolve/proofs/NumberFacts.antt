@@ -4,7 +4,8 @@ use Rattle.std.specs.Prelude.{◌==◌, ◌&&◌}
 use Rattle.std.proofs.lemmas.Bool.{cases_Bool, eqb-true}
 use Rattle.std.proofs.lemmas.List.Elements.{All-cons, All-nil}
 use Rattle.std.proofs.lemmas.List.Quantifiers.{position-Some}
-use Rattle.rf_names.specs.LookUp.{class_named, extends_somehow, inherited_members, members_of_some, numbers_where, own_members, own_or_inherited, reads, references_named, the_number}
+use Rattle.rf_names.specs.LookUp.{class_named, extends_somehow, inherited_members, members_of_some, numbers_where, own_members, own_or_inherited, references_named, the_number}
+use Rattle.rf_names.specs.Texts.{reads}
 use Rattle.rf_names.specs.Declarations.{Declared}
 use Rattle.rf_name_rules.specs.RuleOffsets.{is_same_number}
 

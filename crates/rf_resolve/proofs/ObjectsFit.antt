@@ -13,7 +13,8 @@ use Rattle.rf_text.specs.Written.{CanBeQuoted}
 use Rattle.rf_limits.specs.declared.kind.LimitKind.TheVariants.{Objects}
 use Rattle.rf_names.specs.Declarations.{Declared}
 use Rattle.rf_resolve.specs.Passes.{Passes}
-use Rattle.rf_names.specs.LookUp.{first_of_each, is_text_of, item_named, named_objects, reads}
+use Rattle.rf_names.specs.LookUp.{first_of_each, item_named, named_objects}
+use Rattle.rf_names.specs.Texts.{is_text_of, reads}
 use Rattle.rf_resolve.specs.Readable.{IsReadableDeclared, IsSmallRange}
 use Rattle.rf_resolve.specs.Resolved.{resolved_class, resolved_object}
 use Rattle.rf_resolve.proofs.ClearOffsets.{few-from_first_past}

@@ -3,8 +3,8 @@ use Rattle.std.proofs.Common.{◌≡◌, ◌≤◌, List, [], length, get_or, Al
 use Rattle.std.proofs.lemmas.List.{length-append}
 use Rattle.rf_syntax.specs.declared.predicate.BodyLiteral.{BodyLiteral}
 use Rattle.rf_syntax.specs.declared.predicate.Param.{Param}
-use Rattle.rf_names.specs.Bodies.{clause_variables, first_name, param_names}
-use Rattle.rf_names.specs.Declarations.{Declared, PredicateDecl}
+use Rattle.rf_names.specs.Bodies.{clause_variables, first_name}
+use Rattle.rf_names.specs.Declarations.{Declared, param_names, PredicateDecl}
 use Rattle.rf_limits.specs.Limits.{first_past, limit_offsets}
 use Rattle.rf_resolve.specs.Resolved.{all_literals, class_literals, resolved_literals}
 use Rattle.rf_resolve.specs.Small.{IsSmallClause, IsSmallPredicate}

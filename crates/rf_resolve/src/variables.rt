@@ -1,8 +1,9 @@
 //! The variables of a clause and their numbers.
 
 ghost use Rattle.std.specs.Prelude.{◌≡◌, ◌≤◌, IfOk, None, OnOk, Option, if◌then◌else◌, length, position};
-ghost use Rattle.rf_names.specs.Bodies.{is_variable_of, param_names, variable_number, variable_numbers, with_variable, with_variables};
-ghost use Rattle.rf_names.specs.LookUp.{is_blank, reads};
+ghost use Rattle.rf_names.specs.Bodies.{is_variable_of, variable_number, variable_numbers, with_variable, with_variables};
+ghost use Rattle.rf_names.specs.Declarations.{param_names};
+ghost use Rattle.rf_names.specs.Texts.{is_blank, reads};
 
 use rf_names::{is_blank, names_of_params, reads};
 use rf_syntax::{Name, Param};

@@ -1,5 +1,5 @@
 use Rattle.std.proofs.Common.{◌≡◌, ℕ, List, false, take}
-use Rattle.rf_names.specs.Bodies.{param_names}
+use Rattle.rf_names.specs.Declarations.{param_names}
 use Rattle.rf_clause_rules.specs.Occurrences.{named_among, occurrence_in}
 use Rattle.rf_clause_rules.proofs.occurrence.add_params.Given as goal
 
