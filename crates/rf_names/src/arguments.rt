@@ -11,10 +11,7 @@ use rf_syntax::{Name, Param};
 use std::alloc::{AllocError, Global};
 
 /// The parameters of a predicate, by their texts.
-pub fn numbered_params<'a>(
-    alloc: Global,
-    params: &'a [Param],
-) -> Result<Numbering<'a>, AllocError>
+pub fn numbered_params<'a>(alloc: Global, params: &'a [Param]) -> Result<Numbering<'a>, AllocError>
     ensures { IfOk result (λ known. map (λ n. n.now) known.names.items ≡ param_names params.now) }
 {
     let names = names_of_params(alloc, params)?;

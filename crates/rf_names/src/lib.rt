@@ -39,7 +39,8 @@ mod supers;
 
 pub use arguments::Arguments;
 pub use bodies::{
-    is_blank, names_of_arguments, names_of_literal, names_of_literals, names_of_params, push_argument_names, reads,
+    is_blank, names_of_arguments, names_of_literal, names_of_literals, names_of_params,
+    push_argument_names, reads,
 };
 pub use declarations::Declarations;
 pub use kind::kind_of;

@@ -160,7 +160,9 @@ pub fn push_mentions<'a>(
         Statement::Class { .. } | Statement::Scope(_) => Ok(()),
         Statement::Enum { literals, .. } => push_listed(out, literals),
         Statement::Predicate {
-            params, clauses, ..
+            params,
+            clauses,
+            ..
         } => push_body_atoms(alloc, out, atoms, params.as_slice(), clauses),
         Statement::Declare(names) | Statement::Atoms(names) => push_list(out, names),
         Statement::Multi(items) => push_names_of_items(out, items),
