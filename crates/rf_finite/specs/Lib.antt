@@ -3,3 +3,4 @@ pub mod Lists
 pub mod Range
 pub mod Walks
 pub mod Ends
+pub mod Sums

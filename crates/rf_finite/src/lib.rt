@@ -4,11 +4,13 @@
 #![tactic(auto)]
 
 mod laws;
+mod parts;
 mod rule;
 mod upper_ends;
 
 pub use laws::{
     all_below_law, count_below_law, first_below_law, no_cycle_law, some_below_law, walk_law,
 };
+pub use parts::{Parts, sum_of_ends, sum_of_parts};
 pub use rule::{Rule, first_found};
 pub use upper_ends::{add_ends, within};
