@@ -1,7 +1,7 @@
 -- Lemmas on tests, counts, sums and first values over the numbers below a bound.
 use Rattle.std.proofs.Common.{◌≡◌, ℕ, zero, suc, ◌+◌, ◌≤◌, ◌<◌, Bool, true, false, cond, not, ◌&&◌, eqb, Option, Some, None, ◌⊎◌, refl, sym, ap, ◌∙◌, subst, inl, inr, arith, true≢false, add-one}
 use Rattle.std.proofs.lemmas.Bool.{and_parts, and_from, or_cases, or_left, or_right, or_from, cases_Bool, cases_eq, cases_lt, cases_order, both_ways, false_from_ne_true, ne_eqb, eq-eqb, eqb-true}
-use Rattle.std.specs.Option.{option_or}
+use Rattle.std.specs.Option.{option_map, option_or}
 use Rattle.rf_finite.specs.Range.{some_below, all_below, count_below, sum_below, first_below, IsFirstValue}
 
 -- a number below n + 1 is below n, or n itself
@@ -296,3 +296,12 @@ IsFirstValue-from_first_below {A} (suc n) f v h = go (first_below n f) refl h (I
 
 pub first_below-from_IsFirstValue : {A : Type 0} (n : ℕ) (f : ℕ → Option A) (v : A) → IsFirstValue n f v → first_below n f ≡ Some v
 first_below-from_IsFirstValue n f v r = first_below-at n f r.0 v r.1 (first_below-none r.0 f r.3) r.2
+
+-- values of what is found are what is found by their values
+pub first_below-map : {A B : Type 0} (v : A → B) (n : ℕ) (f : ℕ → Option A) → first_below n (λ k. option_map v (f k)) ≡ option_map v (first_below n f)
+first_below-map {A} {B} v zero f = refl
+first_below-map {A} {B} v (suc n) f = rw (first_below-map v n f) (or_map (first_below n f) (f n))
+  where
+    or_map : (a b : Option A) → option_or (option_map v a) (option_map v b) ≡ option_map v (option_or a b)
+    or_map None b = refl
+    or_map (Some a) b = refl

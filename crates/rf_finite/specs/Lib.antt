@@ -4,3 +4,5 @@ pub mod Range
 pub mod Walks
 pub mod Ends
 pub mod Sums
+pub mod Firsts
+pub mod Tuples

@@ -11,6 +11,10 @@ IsWalk edge through n a (c ∷ cs) b = (edge a c ≡ true) × (c < n) × (throug
 abbrev pub IsReachable : (ℕ → ℕ → Bool) → (ℕ → Bool) → ℕ → ℕ → ℕ → Type 0
 IsReachable edge through n a b = (inner : List ℕ) × IsWalk edge through n a inner b
 
+-- no walk leads from a vertex below n back to it
+abbrev pub HasNoCycle : (ℕ → ℕ → Bool) → ℕ → Type 0
+HasNoCycle edge n = (x : ℕ) → x < n → IsReachable edge (λ y. true) n x x → ⊥
+
 -- whether a walk leads from a to b, by recursion on the bound of its inner vertices: a walk through the
 -- greatest vertex passes it between two walks through smaller ones
 abbrev pub walk_below : (ℕ → ℕ → Bool) → (ℕ → Bool) → ℕ → ℕ → ℕ → Bool
@@ -25,9 +29,9 @@ WalkBelowFindsWalks =
     (edge : ℕ → ℕ → Bool) (through : ℕ → Bool) (n a b : ℕ)
     → (walk_below edge through n a b ≡ true) ↔ IsReachable edge through n a b
 
--- no walk leads from a vertex back to it exactly where a rank falls along each edge
+-- there is no cycle exactly where a rank falls along each edge
 abbrev pub NoCycleIsRank : Type 0
 NoCycleIsRank =
     (edge : ℕ → ℕ → Bool) (n : ℕ)
-    → ((x : ℕ) → x < n → IsReachable edge (λ _. true) n x x → ⊥)
+    → HasNoCycle edge n
     ↔ ((rank : ℕ → ℕ) × ((x y : ℕ) → x < n → y < n → edge x y ≡ true → rank y < rank x))

@@ -9,7 +9,8 @@ mod rule;
 mod upper_ends;
 
 pub use laws::{
-    all_below_law, count_below_law, first_below_law, no_cycle_law, some_below_law, walk_law,
+    all_below_law, count_below_law, ends_below_law, first_below_law, first_law, first_tuple_law,
+    no_cycle_law, some_below_law, sum_below_law, walk_law,
 };
 pub use parts::{Parts, sum_of_ends, sum_of_parts};
 pub use rule::{Rule, first_found};
