@@ -1,11 +1,11 @@
 -- Lemmas on the first of what passes.
-use Rattle.std.proofs.Common.{◌≡◌, Bool, true, false, ◌||◌, Option, Some, None, ◌⊎◌, refl, sym, ap, ◌∙◌, inl, inr, Less, Equal, Greater}
+use Rattle.std.proofs.Common.{◌≡◌, Bool, true, ◌||◌, Option, Some, None, ◌⊎◌, refl, sym, ap, ◌∙◌, inl, inr, Less, Equal, Greater}
 use Rattle.std.specs.Cmp.{IsTotalOrder}
 use Rattle.std.specs.FinMap.{IsAntisymmetric}
 use Rattle.std.specs.Ordering.{ordering_reverse}
 use Rattle.std.specs.declared.cmp.Ordering.{Ordering}
-use Rattle.std.proofs.lemmas.Bool.{or_cases, or_left, or_right, both_ways, false_from_ne_true}
-use Rattle.rf_finite.specs.Firsts.{IsFirst, IsFirstOf, earlier}
+use Rattle.std.proofs.lemmas.Bool.{or_cases, or_left, or_right}
+use Rattle.rf_finite.specs.Firsts.{IsFirstOf, earlier}
 use Rattle.rf_finite.proofs.Range.{None-ne_Some}
 
 module _ {X : Type 0} (cmp : X → X → Ordering) where

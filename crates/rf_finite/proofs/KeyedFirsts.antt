@@ -1,17 +1,16 @@
 -- The first of values that are ordered by keys, number by number, found by searches through numbers one in another.
-use Rattle.std.proofs.Common.{◌≡◌, ◌↔◌, ◌⊎◌, ℕ, zero, suc, ◌≤◌, ◌<◌, Bool, true, false, Option, Some, None, List, [], ◌∷◌, ◌++◌, length, All, nat_cmp, Less, Greater, refl, sym, ap, ◌∙◌, subst, inl, inr, arith, true≢false, append_assoc, append-nil, lt-ltb}
+use Rattle.std.proofs.Common.{◌≡◌, ◌↔◌, ◌⊎◌, ℕ, zero, suc, ◌≤◌, ◌<◌, Bool, true, false, Option, Some, None, List, [], ◌∷◌, ◌++◌, nat_cmp, Less, Greater, refl, sym, ap, ◌∙◌, subst, inl, inr, arith, true≢false, append_assoc, append-nil, lt-ltb}
 use Rattle.std.specs.Bool.{then_some}
-use Rattle.std.specs.Option.{option_map, option_or}
+use Rattle.std.specs.Option.{option_or}
 use Rattle.std.specs.Cmp.Lexicographic.{slice_cmp}
 use Rattle.std.specs.Ordering.{on, ordering_reverse, ordering_then}
 use Rattle.std.proofs.lemmas.Bool.{cases_order}
 use Rattle.std.proofs.lemmas.Cmp.{nat_cmp_total, nat_list_cmp_total, tied_itself}
 use Rattle.std.proofs.lemmas.List.Elements.{All-cons, All-head, All-nil, All-tail}
 use Rattle.std.proofs.lemmas.Option.{same_Some}
-use Rattle.rf_finite.specs.Firsts.{IsFirst, IsFirstOf}
+use Rattle.rf_finite.specs.Firsts.{IsFirstOf}
 use Rattle.rf_finite.specs.Range.{first_below}
 use Rattle.rf_finite.specs.Tuples.{IsTuple, first_tuple}
-use Rattle.rf_finite.proofs.Firsts.{IsFirstOf-same}
 use Rattle.rf_finite.proofs.Range.{IsFirstValue-from_first_below, None-ne_Some, each-from_first_below}
 
 -- a key that goes on with a smaller number comes before

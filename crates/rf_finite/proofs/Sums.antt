@@ -1,10 +1,10 @@
 -- Lemmas on sums over the numbers below a bound, and on sums of ends.
-use Rattle.std.proofs.Common.{◌≡◌, ℕ, zero, suc, ◌+◌, ◌≤◌, ◌<◌, Bool, true, false, cond, not, ◌&&◌, eqb, Option, Some, None, refl, sym, ap, ◌∙◌, subst, inl, inr, arith}
+use Rattle.std.proofs.Common.{◌≡◌, ℕ, zero, suc, ◌+◌, ◌≤◌, ◌<◌, Bool, true, false, cond, not, ◌&&◌, eqb, Option, Some, None, refl, sym, ap, ◌∙◌, inl, inr, arith}
 use Rattle.std.proofs.lemmas.Bool.{cases_Bool, cases_lt, ne_eqb, eq-eqb, leb-true, le-leb}
 use Rattle.rf_finite.specs.Ends.{within, add_ends, ends_below}
 use Rattle.rf_finite.specs.Range.{sum_below}
 use Rattle.rf_finite.specs.Sums.{IsNoGreaterEnd}
-use Rattle.rf_finite.proofs.Ends.{ends_below-same, ends_below-unbounded, sum_below-within}
+use Rattle.rf_finite.proofs.Ends.{ends_below-same, sum_below-within}
 use Rattle.rf_finite.proofs.Range.{None-ne_Some, below_or_last, sum_below-same}
 
 -- the other numbers are those that pass, where this one isn't among them
