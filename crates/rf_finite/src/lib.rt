@@ -1,6 +1,6 @@
 //! Finitely many things: tests, counts, sums and first values over the numbers below a bound, upper
-//! ends of counts, and walks over edges between numbered vertices. Most of it are definitions for
-//! contracts, with their lemmas.
+//! ends of counts, firsts in an order, and walks over edges between numbered vertices. Most of it are
+//! definitions for contracts, with their lemmas.
 #![tactic(auto)]
 
 mod laws;
