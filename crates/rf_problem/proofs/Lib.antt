@@ -7,5 +7,6 @@ pub mod CallLemmas
 pub mod Choices
 pub mod CycleLemmas
 pub mod Depth
+pub mod Following
 pub mod StockLemmas
 pub mod ProblemLemmas

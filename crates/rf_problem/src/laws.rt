@@ -1,5 +1,6 @@
 //! What holds of problems, each law as the contract of a function that does nothing.
 
+ghost use Rattle.rf_problem.specs.Follows.{PredicatesCarryOver};
 ghost use Rattle.rf_problem.specs.Laws.{BelowIsComputed, DepthOfAllIsEnough, DepthPastRankIsEnough, ProblemIsItsLists};
 
 /// A class is below another exactly where the computed test says so.
@@ -16,4 +17,10 @@ pub fn depth_law()
 /// Two problems with the same lists are the same.
 pub fn problem_law()
     ensures { ProblemIsItsLists }
+{}
+
+/// What a predicate says of elements in a pair of readings it says of related ones in each pair that
+/// follows.
+pub fn following_law()
+    ensures { PredicatesCarryOver }
 {}
