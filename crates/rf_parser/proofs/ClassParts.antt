@@ -21,7 +21,7 @@ use Rattle.rf_syntax.specs.Parts.{flagged, optional, optional_after, separated}
 use Rattle.rf_syntax.specs.Piece.{Piece, kinds_of, terminal}
 use Rattle.rf_syntax.specs.Range.{mult_pieces}
 use Rattle.rf_syntax.specs.Statement.{statement_pieces}
-use Rattle.rf_syntax.specs.Terminals.{abstract_word, class_word, comma, container_word, contains_word, dot, extends_word, left_brace, left_bracket, opposite_word, refers_word, right_brace, semicolon}
+use Rattle.rf_syntax.specs.Terminals.{abstract_word, class_word, comma, container_word, contains_word, extends_word, left_bracket, opposite_word, refers_word, right_brace, semicolon}
 use Rattle.rf_parser.specs.Fit.{token_kinds}
 use Rattle.rf_parser.specs.Private.Parts.{BeginsClass, BeginsPredicate, features_to_brace, mult_and_name, single}
 use Rattle.rf_parser.specs.Private.Parsing.{Halts, Parses, IsStuck, StartsWith, either, first_kind, never}

@@ -11,7 +11,7 @@ use Rattle.rf_parser.specs.Private.Parsing.{Adds, Halts, Parses, IsStuck, NeverB
 use Rattle.rf_parser.proofs.Prefixes.{append_nil, kinds_then}
 use Rattle.rf_parser.proofs.Optionals.{halts_less}
 use Rattle.rf_parser.proofs.Singles.{not_halted, starts_first, starts_parsed}
-use Rattle.rf_parser.proofs.Wholes.{Apart, Begins, IsCase, pair, parsed_as, parsed_next, parsed_nothing, parsed_then, stuck_as, stuck_first, stuck_next, stuck_start, stuck_then}
+use Rattle.rf_parser.proofs.Wholes.{Apart, Begins, IsCase, pair, parsed_as, parsed_next, parsed_nothing, parsed_then, stuck_as, stuck_first, stuck_next, stuck_then}
 
 -- what is parsed of the parts from rest on, with those before it, is parsed of all of them
 pub record Onward {T : Type 0} (pieces : List T → List Piece) (longer : Kind → Type 0) (tokens : List Token) (parts : List T) (rest : List Token) : Type 0 where
