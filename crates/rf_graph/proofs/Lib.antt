@@ -1,5 +1,6 @@
 pub mod Atoms
 pub mod BadLines
+pub mod Chosen
 pub mod Documents
 pub mod Edges
 pub mod FirstOfAll

@@ -31,9 +31,9 @@ module _ (p : Problem) (g : Graph) where
 
   -- a clause of a predicate fits
   FitsClause-of : (q : ℕ) (c : Clause) → Contains (clauses_at q) c
-      → FitsClause (length p.classes) (length p.references) p.predicates (arity_at q) c
+      → FitsClause (length p.classes) (length p.references) p.objects p.predicates (arity_at q) c
   FitsClause-of q c there = elim (cases_lt q (length p.predicates)) [
-    | inl l ↦ All-contains (FitsClause (length p.classes) (length p.references) p.predicates (arity_at q))
+    | inl l ↦ All-contains (FitsClause (length p.classes) (length p.references) p.objects p.predicates (arity_at q))
         (clauses_at q) c (p.predicates_fit.clauses q no_predicate l) there
     | inr past ↦ (let none : Contains [] c = subst (λ (r : Predicate). Contains r.clauses c) (predicate_at-past p.predicates q past) there in
         let l = none.1 in absurd (omega arith))
@@ -45,7 +45,7 @@ module _ (p : Problem) (g : Graph) where
     body c assignment = literals_true told (graph_reading p g) (graph_reading p g) c.variables 0 assignment c.literals
 
     -- a clause holds where the test says so, and the test says so where it does
-    pub ClauseHolds-from_clause_true : (arity : ℕ) (t : List ℕ) (c : Clause) → FitsClause (length p.classes) (length p.references) p.predicates arity c
+    pub ClauseHolds-from_clause_true : (arity : ℕ) (t : List ℕ) (c : Clause) → FitsClause (length p.classes) (length p.references) p.objects p.predicates arity c
         → length t ≡ arity → clause_true told (graph_reading p g) (graph_reading p g) arity t c ≡ true → ClauseHolds p g says t c
     ClauseHolds-from_clause_true arity t c fit e h =
         let one = one-from_some_assignment is_free (graph_reading p g) (λ x. refl) (body c) (drop arity c.variables) arity (slice_index t) h in
@@ -61,7 +61,7 @@ module _ (p : Problem) (g : Graph) where
           literals = literals-from_literals_true p g told says agree c.variables picked c.literals fit.literals one.2;
         }
 
-    pub clause_true-from_ClauseHolds : (arity : ℕ) (t : List ℕ) (c : Clause) → FitsClause (length p.classes) (length p.references) p.predicates arity c
+    pub clause_true-from_ClauseHolds : (arity : ℕ) (t : List ℕ) (c : Clause) → FitsClause (length p.classes) (length p.references) p.objects p.predicates arity c
         → length t ≡ arity → ClauseHolds p g says t c → clause_true told (graph_reading p g) (graph_reading p g) arity t c ≡ true
     clause_true-from_ClauseHolds arity t c fit e h =
         some_assignment-from_one is_free (graph_reading p g) (λ x. refl) (body c) (drop arity c.variables) arity (slice_index t) picked picks
@@ -109,7 +109,7 @@ module _ (p : Problem) (g : Graph) where
   -- it is one
   pub computed_meaning-IsMeaning : IsMeaning p g computed_meaning
   computed_meaning-IsMeaning q t e =
-      let step = predicate_true-step p.classes p.references p.predicates p.predicates_fit (graph_reading p g) (graph_reading p g) q t in (
+      let step = predicate_true-step p.classes p.references p.objects p.predicates p.predicates_fit (graph_reading p g) (graph_reading p g) q t in (
         λ h. PredicateHolds-from_clauses (predicate_true p.predicates (length p.predicates)) computed_meaning (λ r u f. refl) q t e (sym step ∙ h),
         λ h. step ∙ clauses-from_PredicateHolds (predicate_true p.predicates (length p.predicates)) computed_meaning (λ r u f. refl) q t e h,
       )
@@ -129,7 +129,7 @@ module _ (p : Problem) (g : Graph) where
       (λ h. (meaning q t e).1 (PredicateHolds-from_clauses (only_fitting says) says (only_fitting-same says) q t e h))
 
   abbrev rank : ℕ → ℕ
-  rank q = call_rank p.classes p.references p.predicates p.predicates_fit q
+  rank q = call_rank p.classes p.references p.objects p.predicates p.predicates_fit q
 
   -- two meanings say the same of each predicate, by induction on how much it calls
   meaning-unique_below : (says tells : Meaning) → IsMeaning p g says → IsMeaning p g tells → (n q : ℕ) (t : List ℕ) → rank q < n
@@ -138,7 +138,7 @@ module _ (p : Problem) (g : Graph) where
   meaning-unique_below says tells first second (suc n) q t l e =
       meaning-by_clauses says first q t e
       ∙ (clauses-same (only_fitting says) (only_fitting tells) (graph_reading p g) (graph_reading p g) (arity_at q) t (clauses_at q)
-      (λ s c here inside u. (let falls = call_rank-falls p.classes p.references p.predicates p.predicates_fit q s c in
+      (λ s c here inside u. (let falls = call_rank-falls p.classes p.references p.objects p.predicates p.predicates_fit q s c in
       elim (cases_Bool (length u == arity_at s)) [
         | inl fits ↦ rw fits (meaning-unique_below says tells first second n s u (omega arith) (eqb-true (length u) (arity_at s) fits))
         | inr apart ↦ rw apart refl

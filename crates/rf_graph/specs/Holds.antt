@@ -2,14 +2,16 @@
 use Rattle.std.specs.Prelude.{◌≡◌, ◌≢◌, ◌<◌, ◌≤◌, ◌↔◌, ℕ, Bool, true, false, Option, None, Some, List, [], ◌∷◌, map, length, Contains, slice_get, slice_index, slice_index_or}
 use Rattle.rf_problem.specs.Classes.{IsBelow}
 use Rattle.rf_problem.specs.Parts.{predicate_at}
-use Rattle.rf_problem.specs.Reading.{Assignment}
+use Rattle.rf_problem.specs.Reading.{Assignment, Choice, element_of}
 use Rattle.rf_problem.specs.declared.predicate.Clause.{Clause}
 use Rattle.rf_problem.specs.declared.predicate.Literal.{Literal}
 use Rattle.rf_problem.specs.declared.predicate.Literal.TheVariants.{Call, Same, Differ}
+use Rattle.rf_problem.specs.declared.predicate.Term.{Term}
+use Rattle.rf_problem.specs.declared.predicate.Term.TheVariants.{Atom}
 use Rattle.rf_problem.specs.declared.problem.Problem.{Problem}
 use Rattle.rf_problem.specs.declared.symbol.Symbol.{Symbol}
 use Rattle.rf_problem.specs.declared.symbol.Symbol.TheVariants.{Class, Reference, Predicate}
-use Rattle.rf_graph.specs.Graph.{HasEdge, class_of, size_of}
+use Rattle.rf_graph.specs.Graph.{HasEdge, class_of, origin_of, size_of}
 use Rattle.rf_graph.specs.declared.graph.Graph.{Graph}
 
 -- at which tuples of nodes each predicate holds
@@ -43,14 +45,26 @@ pub record ChoosesInside (variables : List (Option ℕ)) (i nodes : ℕ) (assign
   pub inside : (v : ℕ) → slice_index_or variables v None ≡ Some i → chosen v < nodes
   pub outside : (v : ℕ) → (slice_index_or variables v None ≡ Some i → ⊥) → chosen v ≡ assignment v
 
+-- for each atom among the terms a node that comes from it is chosen, the same at all places of the atom
+pub record ChoosesAtoms (g : Graph) (terms : List Term) (choice : Choice) : Type 0 where
+  pub nodes : (o : ℕ) → Contains terms (Atom o) → choice o < size_of g
+  pub origins : (o : ℕ) → Contains terms (Atom o) → origin_of g (choice o) ≡ o
+
+-- a call holds: for some choice of nodes for its atoms its atom does at the nodes of its terms
+abbrev pub CallHolds : Problem → Graph → Meaning → Bool → Symbol → Assignment → List Term → Type 0
+CallHolds p g says closure symbol assignment terms =
+    (choice : Choice) × ChoosesAtoms g terms choice × AtomHolds p g says closure symbol (map (element_of assignment choice) terms)
+
 -- literal i of a clause with these variables holds at these nodes; a variable that ranges inside its negation
--- does so over all nodes
+-- does so over all nodes, and so do the nodes for its atoms range inside it
 abbrev pub LiteralHolds : Problem → Graph → Meaning → List (Option ℕ) → ℕ → Assignment → Literal → Type 0
-LiteralHolds p g says variables i assignment (Call false closure symbol args) = AtomHolds p g says closure symbol (map assignment args)
+LiteralHolds p g says variables i assignment (Call false closure symbol args) = CallHolds p g says closure symbol assignment args
 LiteralHolds p g says variables i assignment (Call true closure symbol args) =
-    (chosen : Assignment) → ChoosesInside variables i (size_of g) assignment chosen → AtomHolds p g says closure symbol (map chosen args) → ⊥
-LiteralHolds p g says variables i assignment (Same a b) = assignment a ≡ assignment b
-LiteralHolds p g says variables i assignment (Differ a b) = assignment a ≢ assignment b
+    (chosen : Assignment) → ChoosesInside variables i (size_of g) assignment chosen → CallHolds p g says closure symbol chosen args → ⊥
+LiteralHolds p g says variables i assignment (Same a b) =
+    (choice : Choice) × ChoosesAtoms g (a ∷ b ∷ []) choice × (element_of assignment choice a ≡ element_of assignment choice b)
+LiteralHolds p g says variables i assignment (Differ a b) =
+    (choice : Choice) × ChoosesAtoms g (a ∷ b ∷ []) choice × (element_of assignment choice a ≢ element_of assignment choice b)
 
 -- the parameters stand for the nodes of the tuple, and each other variable that ranges over the clause for some node
 pub record StandFor (variables : List (Option ℕ)) (nodes : ℕ) (t : List ℕ) (assignment : Assignment) : Type 0 where
