@@ -20,6 +20,7 @@ use Rattle.rf_problem.specs.declared.symbol.Symbol.{Symbol}
 use Rattle.rf_problem.specs.declared.symbol.Symbol.TheVariants.{Class, Reference, Predicate, Exists, Equals}
 use Rattle.rf_problem.proofs.Choices.{is_chosen, inner-from_entry, outer-from_free, is_entry-Some}
 use Rattle.rf_problem.proofs.Depth.{predicate_at-past}
+use Rattle.rf_problem.proofs.Fitting.{FitsCall, FitsCall-from_literal_fits, IsFree, literal_fits, literals_fit, may_stand-free, may_stand-parts, ranges_over-cases}
 
 -- related assignments stay related where one more variable stands for related elements
 assigned : (Rel : ℕ → ℕ → Type 0) (f h : Assignment) (v x y u : ℕ) → Rel x y → Rel (f u) (h u) ⊎ (u ≡ v) → Rel (assign f v x u) (assign h v y u)
@@ -131,57 +132,13 @@ steps_two ps (Predicate q) h = eqb-true (predicate_at ps q).arity 2 h
 steps_two ps Exists h = absurd (true≢false (sym h))
 steps_two ps Equals h = absurd (true≢false (sym h))
 
--- a variable that ranges over the clause, or is a parameter
-abbrev RangesOver : List (Option ℕ) → ℕ → Type 0
-RangesOver variables v = (v < length variables) × (slice_index_or variables v None ≡ None)
-
-outside : (o : Option ℕ) (i : ℕ) → ranges_over o i false ≡ true → o ≡ None
-outside None i h = refl
-outside (Some j) i h = absurd (true≢false (sym h))
-
-stands_outside : (variables : List (Option ℕ)) (i v : ℕ) → may_stand variables i false v ≡ true → RangesOver variables v
-stands_outside variables i v h =
-    let parts = and_parts (nat_lt v (length variables)) (ranges_over (slice_index_or variables v None) i false) h in
-    (ltb-true v (length variables) parts.0, outside (slice_index_or variables v None) i parts.1)
-
-inside : (o : Option ℕ) (i : ℕ) → ranges_over o i true ≡ true → (o ≡ None) ⊎ (is_entry i o ≡ true)
-inside None i h = inl refl
-inside (Some j) i h = inr h
-
-stands_inside : (variables : List (Option ℕ)) (i v : ℕ) → may_stand variables i true v ≡ true → RangesOver variables v ⊎ (is_chosen (is_entry i) variables 0 v ≡ true)
+stands_inside : (variables : List (Option ℕ)) (i v : ℕ) → may_stand variables i true v ≡ true → IsFree variables v ⊎ (is_chosen (is_entry i) variables 0 v ≡ true)
 stands_inside variables i v h =
-    let parts = and_parts (nat_lt v (length variables)) (ranges_over (slice_index_or variables v None) i true) h in
-    elim (inside (slice_index_or variables v None) i parts.1) [
-      | inl e ↦ inl (ltb-true v (length variables) parts.0, e)
+    let parts = may_stand-parts variables i v true h in
+    elim (ranges_over-cases (slice_index_or variables v None) i parts.1) [
+      | inl e ↦ inl (parts.0, e)
       | inr e ↦ inr (inner-from_entry variables i v (is_entry-Some i (slice_index_or variables v None) e))
     ]
-
--- the parts of what a call owes
-record OwesCall (p : Problem) (variables : List (Option ℕ)) (i : ℕ) (negated closure : Bool) (symbol : Symbol) (args : List Term) : Type 0 where
-  declared : is_declared (length p.classes) (length p.references) (length p.predicates) symbol ≡ true
-  arity : length args ≡ arity_of p.predicates symbol
-  steps : closure ≡ true → has_steps p.predicates symbol ≡ true
-  stand : list_all (fits_term p.objects variables i negated) args ≡ true
-
--- whether literal i of a clause of the problem fits
-abbrev fits : Problem → List (Option ℕ) → ℕ → Literal → Bool
-fits p variables i l = fits_literal (length p.classes) (length p.references) p.objects p.predicates variables i l
-
-call_fits : (p : Problem) (variables : List (Option ℕ)) (i : ℕ) (negated closure : Bool) (symbol : Symbol) (args : List Term)
-    → fits p variables i (Call negated closure symbol args) ≡ true → OwesCall p variables i negated closure symbol args
-call_fits p variables i negated closure symbol args h =
-    let there = is_declared (length p.classes) (length p.references) (length p.predicates) symbol in
-    let stand = list_all (fits_term p.objects variables i negated) args in
-    let steps = not closure || has_steps p.predicates symbol in
-    let first = and_parts there (length args == arity_of p.predicates symbol && (steps && stand)) h in
-    let second = and_parts (length args == arity_of p.predicates symbol) (steps && stand) first.1 in
-    let third = and_parts steps stand second.1 in
-    record {
-      declared = first.0;
-      arity = eqb-true (length args) (arity_of p.predicates symbol) second.0;
-      steps = λ e. subst (λ b. (not b || has_steps p.predicates symbol) ≡ true) e third.0;
-      stand = third.1;
-    }
 
 module _ (p : Problem) (calls : Calls) (a n b m : Reading) (Rel : ℕ → ℕ → Type 0) (f : Follows p a b Rel) (cf : CallsFollow p calls a n b m Rel) where
   symbol_follows : (symbol : Symbol) (t u : List ℕ) → is_declared (length p.classes) (length p.references) (length p.predicates) symbol ≡ true
@@ -209,7 +166,7 @@ module _ (p : Problem) (calls : Calls) (a n b m : Reading) (Rel : ℕ → ℕ �
       walk_below-from_IsWalk step' b.present b.size (slice_index u 0) w'.0 (slice_index u 1) w'.1
 
   call_follows : (variables : List (Option ℕ)) (i : ℕ) (negated closure : Bool) (symbol : Symbol) (args : List Term) (g h : Assignment)
-      → OwesCall p variables i negated closure symbol args → ((v : ℕ) → may_stand variables i negated v ≡ true → Rel (g v) (h v))
+      → FitsCall p variables i negated closure symbol args → ((v : ℕ) → may_stand variables i negated v ≡ true → Rel (g v) (h v))
       → call_true calls a n closure symbol g args ≡ true → call_true calls b m closure symbol h args ≡ true
   call_follows variables i negated closure symbol args g h c known t =
       elements_follow p a b Rel f (fits_term p.objects variables i negated) args g h (atom_true calls a n closure symbol) (atom_true calls b m closure symbol) c.stand known
@@ -221,46 +178,46 @@ module _ (p : Problem) (calls : Calls) (a n b m : Reading) (Rel : ℕ → ℕ �
   -- a comparison says the same of related elements
   comparison_follows : (i : ℕ) (x y : Term) (t u : Assignment) (says says' : ℕ → ℕ → Bool)
       → (fits_term p.objects variables i false x && fits_term p.objects variables i false y) ≡ true
-      → ((v : ℕ) → RangesOver variables v → Rel (t v) (u v)) → ((x y u v : ℕ) → Rel x u → Rel y v → says x y ≡ true → says' u v ≡ true)
+      → ((v : ℕ) → IsFree variables v → Rel (t v) (u v)) → ((x y u v : ℕ) → Rel x u → Rel y v → says x y ≡ true → says' u v ≡ true)
       → some_elements a t (x ∷ y ∷ []) (λ e. says (slice_index e 0) (slice_index e 1)) ≡ true → some_elements b u (x ∷ y ∷ []) (λ e. says' (slice_index e 0) (slice_index e 1)) ≡ true
   comparison_follows i x y t u says says' stand r both h =
       let parts = and_parts (fits_term p.objects variables i false x) (fits_term p.objects variables i false y) stand in
       elements_follow p a b Rel f (fits_term p.objects variables i false) (x ∷ y ∷ []) t u (λ e. says (slice_index e 0) (slice_index e 1)) (λ e. says' (slice_index e 0) (slice_index e 1))
       (and_from (fits_term p.objects variables i false x) (list_all (fits_term p.objects variables i false) (y ∷ [])) parts.0
       (and_from (fits_term p.objects variables i false y) true parts.1 refl))
-      (λ v s. r v (stands_outside variables i v s))
+      (λ v s. r v (may_stand-free variables i v s))
       (λ k l rel e. both (slice_index k 0) (slice_index k 1) (slice_index l 0) (slice_index l 1) (rel.each 0 (omega arith)) (rel.each 1 (omega arith)) e)
       h
 
-  literal_follows : (i : ℕ) (t u : Assignment) (l : Literal) → fits p variables i l ≡ true → ((v : ℕ) → RangesOver variables v → Rel (t v) (u v))
+  literal_follows : (i : ℕ) (t u : Assignment) (l : Literal) → literal_fits p variables i l ≡ true → ((v : ℕ) → IsFree variables v → Rel (t v) (u v))
       → literal_true calls a n variables i t l ≡ true → literal_true calls b m variables i u l ≡ true
   literal_follows i t u (Call false closure symbol args) fit r h =
-      call_follows p calls a n b m Rel f cf variables i false closure symbol args t u (call_fits p variables i false closure symbol args fit) (λ v s. r v (stands_outside variables i v s)) h
+      call_follows p calls a n b m Rel f cf variables i false closure symbol args t u (FitsCall-from_literal_fits p variables i false closure symbol args fit) (λ v s. r v (may_stand-free variables i v s)) h
   literal_follows i t u (Call true closure symbol args) fit r h =
-      let c = call_fits p variables i true closure symbol args fit in
+      let c = FitsCall-from_literal_fits p variables i true closure symbol args fit in
       let outer : Assignment → Bool = λ w. call_true calls n a closure symbol w args in
       let outer' : Assignment → Bool = λ w. call_true calls m b closure symbol w args in
       let none = not-true (some_assignment n (is_entry i) variables 0 t outer) h in
       not_from_false (some_assignment m (is_entry i) variables 0 u outer')
       (false_from_ne_true (some_assignment m (is_entry i) variables 0 u outer') (λ some.
       both_ways (some_assignment n (is_entry i) variables 0 t outer) none
-      (assignment_follows p m n (λ x y. Rel y x) g (is_entry i) variables 0 u t (RangesOver variables) outer' outer r
+      (assignment_follows p m n (λ x y. Rel y x) g (is_entry i) variables 0 u t (IsFree variables) outer' outer r
       (λ s' s known e. call_follows p calls m b n a (λ x y. Rel y x) g cg variables i true closure symbol args s' s c (λ v k. known v (stands_inside variables i v k)) e)
       some)))
   literal_follows i t u (Same x y) fit r h = comparison_follows i x y t u a.is_same b.is_same fit r f.sames h
   literal_follows i t u (Differ x y) fit r h = comparison_follows i x y t u a.is_different b.is_different fit r f.differs h
 
-  literals_follow : (i : ℕ) (t u : Assignment) (ls : List Literal) → fit_literals (length p.classes) (length p.references) p.objects p.predicates variables i ls ≡ true
-      → ((v : ℕ) → RangesOver variables v → Rel (t v) (u v))
+  literals_follow : (i : ℕ) (t u : Assignment) (ls : List Literal) → literals_fit p variables i ls ≡ true
+      → ((v : ℕ) → IsFree variables v → Rel (t v) (u v))
       → literals_true calls a n variables i t ls ≡ true → literals_true calls b m variables i u ls ≡ true
   literals_follow i t u [] fit r h = refl
   literals_follow i t u (l ∷ ls) fit r h =
       let parts = and_parts (literal_true calls a n variables i t l) (literals_true calls a n variables (suc i) t ls) h in
-      let both = and_parts (fits p variables i l) (fit_literals (length p.classes) (length p.references) p.objects p.predicates variables (suc i) ls) fit in
+      let both = and_parts (literal_fits p variables i l) (literals_fit p variables (suc i) ls) fit in
       and_from (literal_true calls b m variables i u l) (literals_true calls b m variables (suc i) u ls)
       (literal_follows i t u l both.0 r parts.0) (literals_follow (suc i) t u ls both.1 r parts.1)
 
-  clause_follows : (arity : ℕ) (t u : List ℕ) (ls : List Literal) → fit_literals (length p.classes) (length p.references) p.objects p.predicates variables 0 ls ≡ true → AreRelated arity Rel t u
+  clause_follows : (arity : ℕ) (t u : List ℕ) (ls : List Literal) → literals_fit p variables 0 ls ≡ true → AreRelated arity Rel t u
       → some_assignment a is_free (drop arity variables) arity (slice_index t) (λ s. literals_true calls a n variables 0 s ls) ≡ true
       → some_assignment b is_free (drop arity variables) arity (slice_index u) (λ s. literals_true calls b m variables 0 s ls) ≡ true
   clause_follows arity t u ls fit r h =

@@ -1,7 +1,7 @@
 //! What holds of problems, each law as the contract of a function that does nothing.
 
 ghost use Rattle.rf_problem.specs.Follows.{PredicatesCarryOver};
-ghost use Rattle.rf_problem.specs.Laws.{BelowIsComputed, DepthOfAllIsEnough, DepthPastRankIsEnough, ProblemIsItsLists};
+ghost use Rattle.rf_problem.specs.Laws.{BelowIsComputed, DepthOfAllIsEnough, DepthPastRankIsEnough, HoldsInIsComputed, MeaningsAreUnique, MeaningsExist, ProblemIsItsLists};
 
 /// A class is below another exactly where the computed test says so.
 pub fn below_law()
@@ -23,4 +23,11 @@ pub fn problem_law()
 /// follows.
 pub fn following_law()
     ensures { PredicatesCarryOver }
+{}
+
+/// Predicates have one meaning in each pair of readings, and the computed test finds what holds in it.
+pub fn meaning_law()
+    ensures computed { HoldsInIsComputed }
+    ensures exists { MeaningsExist }
+    ensures unique { MeaningsAreUnique }
 {}
