@@ -1,11 +1,12 @@
 -- Keys of the table of what is heard.
-use Rattle.std.proofs.Common.{◌≡◌, ◌∙◌, ℕ, zero, suc, ◌≤◌, ◌+◌, Bool, true, false, ◌&&◌, Option, Some, None, List, [], ◌∷◌, length, refl, sym, ap, ap₂, arith}
+use Rattle.std.proofs.Common.{◌≡◌, ◌∙◌, ℕ, zero, suc, ◌≤◌, ◌+◌, Bool, true, false, ◌&&◌, Option, Some, None, List, [], ◌∷◌, length, refl, sym, ap, ap₂, arith, true≢false}
 use Rattle.std.specs.Prelude.{nat_eq, slice_get}
 use Rattle.std.specs.Cmp.{both_tied, unsigned_tied, unsigned_ties}
 use Rattle.std.specs.Cmp.Lexicographic.{lists_ties, slice_cmp}
 use Rattle.std.specs.Option.{option_cmp, option_eq}
 use Rattle.std.specs.Ordering.{eq_by_cmp, is_eq, nat_cmp, ordering_then}
 use Rattle.std.specs.declared.cmp.Ordering.{Ordering}
+use Rattle.std.proofs.lemmas.Bool.{and_parts, eqb-true}
 use lib.Pointwise.{pointwise}
 use Rattle.rf_problem.specs.Parts.{same_symbol}
 use Rattle.rf_problem.specs.Spoken.{same_args}
@@ -96,7 +97,42 @@ is_key-of s t xs ys l m = ap (λ b. same_symbol s t && b)
 
 -- what is told to be the same is
 pub same_symbol-same : (a b : Symbol) → same_symbol a b ≡ true → a ≡ b
-same_symbol-same a b e = search rules
+same_symbol-same (Class a) (Class b) e = ap Class (eqb-true a b e)
+same_symbol-same (Class a) (Reference b) e = absurd (true≢false (sym e))
+same_symbol-same (Class a) (Defined b) e = absurd (true≢false (sym e))
+same_symbol-same (Class a) Exists e = absurd (true≢false (sym e))
+same_symbol-same (Class a) Equals e = absurd (true≢false (sym e))
+same_symbol-same (Reference a) (Class b) e = absurd (true≢false (sym e))
+same_symbol-same (Reference a) (Reference b) e = ap Reference (eqb-true a b e)
+same_symbol-same (Reference a) (Defined b) e = absurd (true≢false (sym e))
+same_symbol-same (Reference a) Exists e = absurd (true≢false (sym e))
+same_symbol-same (Reference a) Equals e = absurd (true≢false (sym e))
+same_symbol-same (Defined a) (Class b) e = absurd (true≢false (sym e))
+same_symbol-same (Defined a) (Reference b) e = absurd (true≢false (sym e))
+same_symbol-same (Defined a) (Defined b) e = ap Defined (eqb-true a b e)
+same_symbol-same (Defined a) Exists e = absurd (true≢false (sym e))
+same_symbol-same (Defined a) Equals e = absurd (true≢false (sym e))
+same_symbol-same Exists (Class b) e = absurd (true≢false (sym e))
+same_symbol-same Exists (Reference b) e = absurd (true≢false (sym e))
+same_symbol-same Exists (Defined b) e = absurd (true≢false (sym e))
+same_symbol-same Exists Exists e = refl
+same_symbol-same Exists Equals e = absurd (true≢false (sym e))
+same_symbol-same Equals (Class b) e = absurd (true≢false (sym e))
+same_symbol-same Equals (Reference b) e = absurd (true≢false (sym e))
+same_symbol-same Equals (Defined b) e = absurd (true≢false (sym e))
+same_symbol-same Equals Exists e = absurd (true≢false (sym e))
+same_symbol-same Equals Equals e = refl
+
+same_arg-same : (a b : Option ℕ) → option_eq nat_eq a b ≡ true → a ≡ b
+same_arg-same None None e = refl
+same_arg-same None (Some b) e = absurd (true≢false (sym e))
+same_arg-same (Some a) None e = absurd (true≢false (sym e))
+same_arg-same (Some a) (Some b) e = ap Some (eqb-true a b e)
 
 pub same_args-same : (xs ys : List (Option ℕ)) → same_args xs ys ≡ true → xs ≡ ys
-same_args-same xs ys e = search rules
+same_args-same [] [] e = refl
+same_args-same [] (y ∷ ys) e = absurd (true≢false (sym e))
+same_args-same (x ∷ xs) [] e = absurd (true≢false (sym e))
+same_args-same (x ∷ xs) (y ∷ ys) e =
+    let parts = and_parts (option_eq nat_eq x y) (same_args xs ys) e in
+    ap₂ (λ (z : Option ℕ) (zs : List (Option ℕ)). z ∷ zs) (same_arg-same x y parts.0) (same_args-same xs ys parts.1)

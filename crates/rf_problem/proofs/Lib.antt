@@ -1,5 +1,6 @@
 pub mod AboveLemmas
 pub mod ApartLemmas
+pub mod ArityLemmas
 pub mod BelowLemmas
 pub mod Below
 pub mod CallLemmas
@@ -9,4 +10,5 @@ pub mod Depth
 pub mod HeardLemmas
 pub mod KeyLemmas
 pub mod StockLemmas
+pub mod TableLemmas
 pub mod ProblemLemmas
