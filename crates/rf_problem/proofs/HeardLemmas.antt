@@ -1,15 +1,15 @@
 -- What the assertions that pass a test say together.
-use Rattle.std.proofs.Common.{rules, inl, inr, ◌≡◌, ◌∙◌, ℕ, suc, ◌+◌, ◌<◌, ◌≤◌, Bool, true, false, ◌&&◌, ◌||◌, List, [], ◌∷◌, ◌++◌, Option, Some, None, if◌then◌else◌, length, take, refl, sym, ap, ap₂, map, unwrap_or, true≢false}
+use Rattle.std.proofs.Common.{rules, inl, inr, ◌≡◌, ◌∙◌, ℕ, Bool, true, false, ◌&&◌, ◌||◌, List, [], ◌∷◌, ◌++◌, Option, Some, None, if◌then◌else◌, refl, sym, ap, ap₂, map, unwrap_or}
 use Rattle.std.specs.Prelude.{filter, nat_eq}
 use Rattle.std.specs.Option.{option_eq, option_or}
 use Rattle.std.proofs.lemmas.Bool.{cases_Bool}
 use Rattle.std.proofs.lemmas.List.{map-append}
 use Rattle.std.proofs.lemmas.List.Elements.{filter-append}
 use Rattle.rf_values.specs.declared.truth.Truth.{Truth}
-use Rattle.rf_values.specs.declared.truth.Truth.TheVariants.{True, False, Unknown, Error}
+use Rattle.rf_values.specs.declared.truth.Truth.TheVariants.{Unknown}
 use Rattle.rf_values.specs.Truth.{merge}
-use Rattle.rf_problem.specs.Asserted.{asserted, heard, match_each, matches, merge_first, unwritten}
-use Rattle.rf_problem.specs.Merged.{joined, merge_all, merged}
+use Rattle.rf_problem.specs.Asserted.{asserted, heard, match_each, merge_first, unwritten}
+use Rattle.rf_problem.specs.Merged.{joined, merged}
 use Rattle.rf_problem.specs.Parts.{same_symbol}
 use Rattle.rf_problem.specs.Patterns.{begin, fits}
 use Rattle.rf_problem.specs.Spoken.{heard_by, is_at, join, same_args, spoken}

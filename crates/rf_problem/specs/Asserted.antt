@@ -1,5 +1,5 @@
 -- What is stated of symbols and objects.
-use Rattle.std.specs.Prelude.{ℕ, max, Bool, true, false, ◌==◌, ◌&&◌, if◌then◌else◌, Option, None, Some, List, [], ◌∷◌, ◌++◌, map, filter, slice_index_or}
+use Rattle.std.specs.Prelude.{ℕ, max, Bool, true, false, ◌==◌, ◌&&◌, if◌then◌else◌, Option, None, Some, List, [], ◌∷◌, ◌++◌, map, filter}
 use Rattle.rf_values.specs.declared.count.Count.{Count}
 use Rattle.rf_values.specs.declared.truth.Truth.{Truth}
 use Rattle.rf_values.specs.declared.truth.Truth.TheVariants.{True, False, Unknown, Error}
@@ -9,13 +9,11 @@ use Rattle.rf_problem.specs.Merged.{merged}
 use Rattle.rf_problem.specs.Parts.{object_at, predicate_at, same_symbol}
 use Rattle.rf_problem.specs.declared.assertion.Assertion.{Assertion}
 use Rattle.rf_problem.specs.declared.heard.Heard.{Heard}
-use Rattle.rf_problem.specs.declared.object.ObjectDecl.{ObjectDecl}
 use Rattle.rf_problem.specs.declared.object.ObjectKind.{ObjectKind}
 use Rattle.rf_problem.specs.declared.object.ObjectKind.TheVariants.{Plain, Atom, LiteralOf}
-use Rattle.rf_problem.specs.declared.object.ObjectName.TheVariants.{NewOf}
 use Rattle.rf_problem.specs.declared.problem.Problem.{Problem}
 use Rattle.rf_problem.specs.declared.symbol.Symbol.{Symbol}
-use Rattle.rf_problem.specs.declared.symbol.Symbol.TheVariants.{Class, Reference, Predicate as Defined, Exists, Equals}
+use Rattle.rf_problem.specs.declared.symbol.Symbol.TheVariants.{Class, Predicate as Defined, Exists, Equals}
 
 -- whether an argument matches an object: it is that object, or `*`
 abbrev pub matches : Option ℕ → ℕ → Bool

@@ -48,8 +48,8 @@ pub fn heard_at(table: &BTreeMap<Key, Heard>, key: Key) -> Heard
 fn put(table: &mut BTreeMap<Key, Heard>, assertion: &Assertion) -> Result<(), AllocError>
     ensures { OnOk result ((q : Key) → heard_at table.new q
         ≡ (if is_key (key_of assertion.now.symbol assertion.now.args) q
-            then join (heard_at table.old (key_of assertion.now.symbol assertion.now.args)) (spoken assertion.now)
-            else heard_at table.old q)) }
+        then join (heard_at table.old (key_of assertion.now.symbol assertion.now.args)) (spoken assertion.now)
+        else heard_at table.old q)) }
 {
     let key = key_of(assertion.symbol, &assertion.args);
     let heard = heard_at(table, key).join(Heard::of(assertion));

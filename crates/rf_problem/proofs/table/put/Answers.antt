@@ -11,5 +11,5 @@ returns c =
     let key : c.key_of-key.result ≡ key_of c.args.assertion.now.symbol c.args.assertion.now.args =
     c.key_of-key.ensures ∙ ap (key_of c.args.assertion.now.symbol) c.deref.ensures in
     λ q. heard_at-put c.args.table.now c.insert.new.self c.key_of-key.result c.join-heard.result q (c.in_ok-insert.ensures.updates.0 q)
-        ∙ ap₂ (λ (k : Key) (h : Heard). if is_key k q then h else heard_at c.args.table.now q) key
-        (c.join-heard.ensures ∙ ap₂ join (c.heard_at.ensures ∙ ap (heard_at c.args.table.now) key) c.of.ensures)
+    ∙ ap₂ (λ (k : Key) (h : Heard). if is_key k q then h else heard_at c.args.table.now q) key
+    (c.join-heard.ensures ∙ ap₂ join (c.heard_at.ensures ∙ ap (heard_at c.args.table.now) key) c.of.ensures)

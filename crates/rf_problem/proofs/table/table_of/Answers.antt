@@ -1,4 +1,4 @@
-use Rattle.std.proofs.Common.{◌≡◌, ◌<◌, ◌≤◌, length, arith}
+use Rattle.std.proofs.Common.{◌<◌, ◌≤◌, length, arith}
 use Rattle.rf_bounds.specs.declared.TheConstants.{MOST_PARAMETERS}
 use Rattle.rf_problem.proofs.TableLemmas.{IsTable-all, IsTable-none, IsTable-put, IsTable-skip}
 use Rattle.rf_problem.proofs.table.table_of.Goals as goal

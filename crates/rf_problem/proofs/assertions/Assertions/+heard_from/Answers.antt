@@ -1,4 +1,4 @@
-use Rattle.std.proofs.Common.{◌≡◌, ◌∙◌, ℕ, List, ap, ap₂, sym, Option, Some, None, ◌++◌, ◌∷◌, []}
+use Rattle.std.proofs.Common.{◌∙◌, ℕ, List, ap, ap₂, sym, Option}
 use Rattle.std.proofs.lemmas.List.{nil_from_length}
 use Rattle.rf_problem.specs.Patterns.{fits}
 use Rattle.rf_problem.specs.Spoken.{heard_by, is_at, join}

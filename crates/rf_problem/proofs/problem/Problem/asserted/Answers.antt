@@ -1,4 +1,4 @@
-use Rattle.std.proofs.Common.{◌∙◌, ◌≤◌, ap, ap₂, subst, sym, unwrap_or, Option}
+use Rattle.std.proofs.Common.{◌∙◌, ◌≤◌, ap, subst, sym, unwrap_or, Option}
 use Rattle.std.specs.Option.{option_or}
 use Rattle.rf_bounds.specs.declared.TheConstants.{MOST_PARAMETERS}
 use Rattle.rf_values.specs.declared.truth.Truth.{Truth}
