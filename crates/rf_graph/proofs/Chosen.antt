@@ -116,8 +116,7 @@ module _ (p : Problem) (g : Graph) (assignment : Assignment) (terms : List Term)
   pub one-from_some_elements : some_elements (graph_reading p g) assignment terms test ≡ true
       → (choice : Choice) × ChoosesAtoms g terms choice × (test (map (element_of assignment choice) terms) ≡ true)
   one-from_some_elements h =
-      let one = one-from_some_choice (graph_reading p g) (λ x. refl) passes (atoms_among terms) (λ o. 0) h in
-      (
+      let one = one-from_some_choice (graph_reading p g) (λ x. refl) passes (atoms_among terms) (λ o. 0) h in (
         one.0,
         record {
           nodes = λ o c. (one.1.inside o (among-from_Contains o terms c)).0;

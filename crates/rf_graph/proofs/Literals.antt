@@ -185,9 +185,12 @@ module _ (p : Problem) (g : Graph) where
         → FitsCall p variables i negated closure symbol args
         → call_true calls (graph_reading p g) (graph_reading p g) closure symbol assignment args ≡ true → CallHolds p g says closure symbol assignment args
     CallHolds-from_call_true variables i negated closure symbol assignment args parts h =
-        let one = one-from_some_elements p g assignment args (is_atom_true closure symbol) h in
-        (one.0, one.1, AtomHolds-from_atom_true p g calls says agree closure symbol (map (element_of assignment one.0) args)
-        (map-arity (element_of assignment one.0) symbol args parts.arity) parts.steps one.2)
+        let one = one-from_some_elements p g assignment args (is_atom_true closure symbol) h in (
+          one.0,
+          one.1,
+          AtomHolds-from_atom_true p g calls says agree closure symbol (map (element_of assignment one.0) args)
+              (map-arity (element_of assignment one.0) symbol args parts.arity) parts.steps one.2,
+        )
 
     call_true-from_CallHolds : (variables : List (Option ℕ)) (i : ℕ) (negated closure : Bool) (symbol : Symbol) (assignment : Assignment) (args : List Term)
         → FitsCall p variables i negated closure symbol args
