@@ -7,6 +7,7 @@ pub mod ContainerLemmas
 pub mod ObjectCounts
 pub mod AssignmentLemmas
 pub mod EvaluationLemmas
+pub mod TermLemmas
 pub mod TupleLemmas
 pub mod NodeListLemmas
 pub mod SuspectLemmas

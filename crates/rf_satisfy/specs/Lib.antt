@@ -10,6 +10,7 @@ pub mod Evaluation
 pub mod NodeLists
 pub mod Pruning
 pub mod Suspects
+pub mod Terms
 pub mod SymbolKinds
 pub mod Tuples
 pub mod Indexed
