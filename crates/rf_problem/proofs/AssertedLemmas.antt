@@ -7,11 +7,10 @@ use Rattle.std.proofs.lemmas.List.{append-nil}
 use Rattle.rf_values.specs.declared.truth.Truth.{Truth}
 use Rattle.rf_values.specs.declared.truth.Truth.TheVariants.{True, False, Unknown, Error}
 use Rattle.rf_values.specs.Truth.{merge}
-use Rattle.rf_problem.specs.Asserted.{asserted, is_default, is_error, is_ordinary, match_each, matches, merge_all, merge_first}
-use Rattle.rf_problem.specs.Heard.{heard_with, merged_with}
+use Rattle.rf_problem.specs.Asserted.{asserted, is_default, is_ordinary, match_each, matches, merge_all, merge_first, unwritten}
+use Rattle.rf_problem.specs.Heard.{heard_with, listed, merged_with}
 use Rattle.rf_problem.specs.declared.asserted.Heard.{Heard}
 use Rattle.rf_problem.specs.declared.assertion.Assertion.{Assertion}
-use Rattle.rf_problem.specs.declared.predicate.Predicate.{Predicate}
 use Rattle.rf_problem.specs.declared.problem.Problem.{Problem}
 use Rattle.rf_problem.specs.declared.symbol.Symbol.{Symbol}
 
@@ -89,30 +88,41 @@ module _ (s : Symbol) (t : List ℕ) where
     | inr e ↦ heard_ordinary xs (heard_with s t h a) ∙ rw e refl
   ]
 
-  -- the ordinary ones, with what the kind of the symbol says, before the defaults
+  -- the ordinary ones, with what is asserted unwritten, before the defaults
   first_heard :
-      (error : Bool) (vs ds : List Truth) →
-      unwrap_or (heard_after (if error then Some False else None) vs) (merge Unknown (merge_all ds))
-      ≡ merge_first (vs ++ (if error then False ∷ [] else [])) ds
-  first_heard true [] ds = refl
-  first_heard true (v ∷ vs) ds = merge_all-last (v ∷ vs) False
-  first_heard false [] ds = refl
-  first_heard false (v ∷ vs) ds = ap (λ ws. merge v (merge_all ws)) (sym (append-nil vs))
+      (o : Option Truth) (vs ds : List Truth) → unwrap_or (heard_after o vs) (merge Unknown (merge_all ds)) ≡ merge_first (vs ++ listed o) ds
+  first_heard (Some u) [] ds = sym (merge-unknown u)
+  first_heard (Some u) (v ∷ vs) ds = merge_all-last (v ∷ vs) u
+  first_heard None [] ds = refl
+  first_heard None (v ∷ vs) ds = ap (λ ws. merge v (merge_all ws)) (sym (append-nil vs))
+
+  abbrev first_of : List Truth → Option Truth
+  first_of [] = None
+  first_of (v ∷ vs) = Some v
+
+  first_of-listed : (o : Option Truth) → o ≡ first_of (listed o)
+  first_of-listed None = refl
+  first_of-listed (Some v) = refl
 
   -- what is known before any assertion is heard
-  abbrev pub unheard : List Predicate → Heard
-  unheard predicates = record { ordinary = if is_error predicates s then Some False else None; default = Unknown }
+  abbrev pub unheard : Problem → Heard
+  unheard p = record { ordinary = first_of (unwritten p s t); default = Unknown }
+
+  pub unheard-listed : (p : Problem) (o : Option Truth) → listed o ≡ unwritten p s t → record { ordinary = o; default = Unknown } ≡ unheard p
+  unheard-listed p o is = ap (λ (u : Option Truth). record { ordinary = u; default = Unknown }) (first_of-listed o ∙ ap first_of is)
 
   -- what is heard of all assertions is what is asserted
   pub asserted-heard :
-      (p : Problem) (h : Heard) (xs : List Assertion) (i : ℕ) → xs ≡ p.assertions → i ≡ length xs →
-      h ≡ fold (heard_with s t) (unheard p.predicates) (take i xs) → unwrap_or h.ordinary h.default ≡ asserted p s t
-  asserted-heard p h xs i same all heard =
+      (p : Problem) (o : Option Truth) (h : Heard) (xs : List Assertion) (i : ℕ) → listed o ≡ unwritten p s t → xs ≡ p.assertions → i ≡ length xs →
+      h ≡ fold (heard_with s t) (unheard p) (take i xs) → unwrap_or h.ordinary h.default ≡ asserted p s t
+  asserted-heard p o h xs i is same all heard =
       rw (
         heard,
         all,
         take-length xs,
         same,
-        heard_ordinary p.assertions (unheard p.predicates),
-        heard_defaults p.assertions (unheard p.predicates),
-      ) (first_heard (is_error p.predicates s) (ordinary_of p.assertions) (defaults_of p.assertions))
+        ← unheard-listed p o is,
+        heard_ordinary p.assertions (record { ordinary = o; default = Unknown }),
+        heard_defaults p.assertions (record { ordinary = o; default = Unknown }),
+        ← is,
+      ) (first_heard o (ordinary_of p.assertions) (defaults_of p.assertions))

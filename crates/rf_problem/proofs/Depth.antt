@@ -1,5 +1,5 @@
 -- How deep calls go.
-use Rattle.std.proofs.Common.{◌≡◌, ℕ, zero, suc, ◌≤◌, ◌<◌, Bool, true, false, not, ◌&&◌, ◌||◌, ◌==◌, Option, List, [], ◌∷◌, length, drop, map, All, refl, sym, ap, ap₂, ◌∙◌, subst, inl, inr, arith, true≢false, slice_index}
+use Rattle.std.proofs.Common.{◌≡◌, ℕ, zero, suc, ◌≤◌, ◌<◌, Bool, true, false, not, ◌&&◌, ◌||◌, ◌==◌, Option, List, [], ◌∷◌, length, drop, All, refl, sym, ap, ap₂, ◌∙◌, subst, inl, inr, arith, true≢false, slice_index}
 use Rattle.std.specs.List.{list_any}
 use Rattle.std.proofs.lemmas.Bool.{or_cases, or_left, or_right, and_parts, cases_lt, eqb-true, eq-eqb, ltb-true}
 use Rattle.std.proofs.lemmas.List.{get_or_past}
@@ -9,13 +9,15 @@ use Rattle.rf_finite.specs.Walks.{walk_below}
 use Rattle.rf_finite.proofs.Range.{count_below-apart, count_below-all, count_below-positive}
 use Rattle.rf_finite.proofs.Walks.{IsReachable-from_walk_below, count_below-reachable_falls}
 use Rattle.rf_problem.specs.Parts.{no_predicate, predicate_at}
-use Rattle.rf_problem.specs.Reading.{Calls, Assignment, Reading, atom_true, clause_true, is_entry, literal_true, literals_true, predicate_true, some_assignment, symbol_true}
+use Rattle.rf_problem.specs.Reading.{Calls, Assignment, Reading, atom_true, call_true, clause_true, is_entry, literal_true, literals_true, predicate_true, some_assignment, some_elements, symbol_true}
 use Rattle.rf_problem.specs.Valid.{ArePredicates, FitsClause, calls, calls_predicate, fit_literals, fits_literal, is_free}
 use Rattle.rf_problem.specs.declared.class.Class.{Class}
+use Rattle.rf_problem.specs.declared.object.ObjectDecl.{ObjectDecl}
 use Rattle.rf_problem.specs.declared.predicate.Clause.{Clause}
 use Rattle.rf_problem.specs.declared.predicate.Literal.{Literal}
 use Rattle.rf_problem.specs.declared.predicate.Literal.TheVariants.{Call, Same, Differ}
 use Rattle.rf_problem.specs.declared.predicate.Predicate.{Predicate}
+use Rattle.rf_problem.specs.declared.predicate.Term.{Term}
 use Rattle.rf_problem.specs.declared.reference.Reference.{Reference as Relation}
 use Rattle.rf_problem.specs.declared.symbol.Symbol.{Symbol}
 use Rattle.rf_problem.specs.declared.symbol.Symbol.TheVariants.{Class as OfClass, Reference, Predicate as Defined, Exists, Equals}
@@ -33,7 +35,7 @@ module _ (says tells : Calls) where
   Agree s = (here inside : Reading) (t : List ℕ) → says here inside s t ≡ tells here inside s t
 
   -- where they agree on what a literal calls, they say the same of its symbol
-  symbol-same : (here inside : Reading) (negated closure : Bool) (symbol : Symbol) (args : List ℕ) → ((s : ℕ) → calls_predicate s (Call negated closure symbol args) ≡ true → Agree s)
+  symbol-same : (here inside : Reading) (negated closure : Bool) (symbol : Symbol) (args : List Term) → ((s : ℕ) → calls_predicate s (Call negated closure symbol args) ≡ true → Agree s)
       → (t : List ℕ) → symbol_true says here inside symbol t ≡ symbol_true tells here inside symbol t
   symbol-same here inside negated closure (OfClass k) args agree t = refl
   symbol-same here inside negated closure (Reference r) args agree t = refl
@@ -41,19 +43,25 @@ module _ (says tells : Calls) where
   symbol-same here inside negated closure Exists args agree t = refl
   symbol-same here inside negated closure Equals args agree t = refl
 
-  atom-same : (here inside : Reading) (negated closure : Bool) (symbol : Symbol) (args : List ℕ) → ((s : ℕ) → calls_predicate s (Call negated closure symbol args) ≡ true → Agree s)
+  atom-same : (here inside : Reading) (negated closure : Bool) (symbol : Symbol) (args : List Term) → ((s : ℕ) → calls_predicate s (Call negated closure symbol args) ≡ true → Agree s)
       → (t : List ℕ) → atom_true says here inside closure symbol t ≡ atom_true tells here inside closure symbol t
   atom-same here inside negated false symbol args agree t = symbol-same here inside negated false symbol args agree t
   atom-same here inside negated true symbol args agree t =
       ap (λ (step : ℕ → ℕ → Bool). walk_below step here.present here.size (slice_index t 0) (slice_index t 1))
       (λ j x y. symbol-same here inside negated true symbol args agree (x ∷ y ∷ []) j)
 
+  call-same : (here inside : Reading) (negated closure : Bool) (symbol : Symbol) (args : List Term) → ((s : ℕ) → calls_predicate s (Call negated closure symbol args) ≡ true → Agree s)
+      → (assignment : Assignment) → call_true says here inside closure symbol assignment args ≡ call_true tells here inside closure symbol assignment args
+  call-same here inside negated closure symbol args agree assignment =
+      ap (λ (test : List ℕ → Bool). some_elements here assignment args test)
+      (λ j t. atom-same here inside negated closure symbol args agree t j)
+
   literal-same : (here inside : Reading) (variables : List (Option ℕ)) (i : ℕ) (assignment : Assignment) (l : Literal) → ((s : ℕ) → calls_predicate s l ≡ true → Agree s)
       → literal_true says here inside variables i assignment l ≡ literal_true tells here inside variables i assignment l
-  literal-same here inside variables i assignment (Call false closure symbol args) agree = atom-same here inside false closure symbol args agree (map assignment args)
+  literal-same here inside variables i assignment (Call false closure symbol args) agree = call-same here inside false closure symbol args agree assignment
   literal-same here inside variables i assignment (Call true closure symbol args) agree =
       ap (λ (test : Assignment → Bool). not (some_assignment inside (is_entry i) variables 0 assignment test))
-      (λ j chosen. atom-same inside here true closure symbol args agree (map chosen args) j)
+      (λ j chosen. call-same inside here true closure symbol args agree chosen j)
   literal-same here inside variables i assignment (Same a b) agree = refl
   literal-same here inside variables i assignment (Differ a b) agree = refl
 
@@ -100,38 +108,39 @@ one-from_All_any P p (x ∷ xs) all any = elim (or_cases (p x) (list_any p xs) a
 ]
 
 -- a literal that fits calls a predicate that is there
-calls_predicate-declared : (classes references : ℕ) (predicates : List Predicate) (variables : List (Option ℕ)) (i s : ℕ) (l : Literal)
-    → fits_literal classes references predicates variables i l ≡ true → calls_predicate s l ≡ true → s < length predicates
-calls_predicate-declared classes references predicates variables i s (Call negated closure (OfClass k) args) fits c = absurd (true≢false (sym c))
-calls_predicate-declared classes references predicates variables i s (Call negated closure (Reference r) args) fits c = absurd (true≢false (sym c))
-calls_predicate-declared classes references predicates variables i s (Call negated closure (Defined q) args) fits c =
+calls_predicate-declared : (classes references : ℕ) (objects : List ObjectDecl) (predicates : List Predicate) (variables : List (Option ℕ)) (i s : ℕ) (l : Literal)
+    → fits_literal classes references objects predicates variables i l ≡ true → calls_predicate s l ≡ true → s < length predicates
+calls_predicate-declared classes references objects predicates variables i s (Call negated closure (OfClass k) args) fits c = absurd (true≢false (sym c))
+calls_predicate-declared classes references objects predicates variables i s (Call negated closure (Reference r) args) fits c = absurd (true≢false (sym c))
+calls_predicate-declared classes references objects predicates variables i s (Call negated closure (Defined q) args) fits c =
     subst (λ m. m < length predicates) (eqb-true q s c) (ltb-true q (length predicates) (and_parts _ _ fits).0)
-calls_predicate-declared classes references predicates variables i s (Call negated closure Exists args) fits c = absurd (true≢false (sym c))
-calls_predicate-declared classes references predicates variables i s (Call negated closure Equals args) fits c = absurd (true≢false (sym c))
-calls_predicate-declared classes references predicates variables i s (Same a b) fits c = absurd (true≢false (sym c))
-calls_predicate-declared classes references predicates variables i s (Differ a b) fits c = absurd (true≢false (sym c))
+calls_predicate-declared classes references objects predicates variables i s (Call negated closure Exists args) fits c = absurd (true≢false (sym c))
+calls_predicate-declared classes references objects predicates variables i s (Call negated closure Equals args) fits c = absurd (true≢false (sym c))
+calls_predicate-declared classes references objects predicates variables i s (Same a b) fits c = absurd (true≢false (sym c))
+calls_predicate-declared classes references objects predicates variables i s (Differ a b) fits c = absurd (true≢false (sym c))
 
-literals_call-declared : (classes references : ℕ) (predicates : List Predicate) (variables : List (Option ℕ)) (i s : ℕ) (ls : List Literal)
-    → fit_literals classes references predicates variables i ls ≡ true → literals_call ls s ≡ true → s < length predicates
-literals_call-declared classes references predicates variables i s [] fits c = absurd (true≢false (sym c))
-literals_call-declared classes references predicates variables i s (l ∷ ls) fits c =
-    let parts = and_parts (fits_literal classes references predicates variables i l) (fit_literals classes references predicates variables (suc i) ls) fits in
+literals_call-declared : (classes references : ℕ) (objects : List ObjectDecl) (predicates : List Predicate) (variables : List (Option ℕ)) (i s : ℕ) (ls : List Literal)
+    → fit_literals classes references objects predicates variables i ls ≡ true → literals_call ls s ≡ true → s < length predicates
+literals_call-declared classes references objects predicates variables i s [] fits c = absurd (true≢false (sym c))
+literals_call-declared classes references objects predicates variables i s (l ∷ ls) fits c =
+    let parts = and_parts (fits_literal classes references objects predicates variables i l) (fit_literals classes references objects predicates variables (suc i) ls) fits in
     elim (or_cases (calls_predicate s l) (literals_call ls s) c) [
-      | inl e ↦ calls_predicate-declared classes references predicates variables i s l parts.0 e
-      | inr e ↦ literals_call-declared classes references predicates variables (suc i) s ls parts.1 e
+      | inl e ↦ calls_predicate-declared classes references objects predicates variables i s l parts.0 e
+      | inr e ↦ literals_call-declared classes references objects predicates variables (suc i) s ls parts.1 e
     ]
 
 -- no clauses stand where no predicate has the number
 pub predicate_at-past : (predicates : List Predicate) (q : ℕ) → length predicates ≤ q → predicate_at predicates q ≡ no_predicate
 predicate_at-past predicates q l = get_or_past predicates q no_predicate l
 
-module _ (classes : List Class) (references : List Relation) (predicates : List Predicate) (fit : ArePredicates classes references predicates) where
+module _ (classes : List Class) (references : List Relation) (objects : List ObjectDecl) (predicates : List Predicate)
+    (fit : ArePredicates classes references objects predicates) where
   -- only predicates that are there call, and are called
   pub calls-declared : (q s : ℕ) → calls predicates q s ≡ true → (q < length predicates) × (s < length predicates)
   calls-declared q s c = elim (cases_lt q (length predicates)) [
-    | inl l ↦ (let one = one-from_All_any (FitsClause (length classes) (length references) predicates (predicate_at predicates q).arity) (λ c. literals_call c.literals s)
+    | inl l ↦ (let one = one-from_All_any (FitsClause (length classes) (length references) objects predicates (predicate_at predicates q).arity) (λ c. literals_call c.literals s)
         (predicate_at predicates q).clauses (fit.clauses q no_predicate l) c in
-        (l, literals_call-declared (length classes) (length references) predicates one.0.variables 0 s one.0.literals one.1.literals one.2))
+        (l, literals_call-declared (length classes) (length references) objects predicates one.0.variables 0 s one.0.literals one.1.literals one.2))
     | inr g ↦ absurd (true≢false (sym (subst (λ (p : Predicate). clauses_call p.clauses s ≡ true) (predicate_at-past predicates q g) c)))
   ]
 

@@ -22,7 +22,7 @@ record Lists : Type 0 where
 -- what they keep
 abbrev Fit : Lists → Type 0
 Fit x =
-    AreClasses x.classes × AreReferences x.classes x.references × ArePredicates x.classes x.references x.predicates × AreObjects x.classes x.objects
+    AreClasses x.classes × AreReferences x.classes x.references × AreObjects x.classes x.objects × ArePredicates x.classes x.references x.objects x.predicates
     × AreAssertions x.classes x.references x.predicates x.objects x.assertions × AreScopes x.classes x.scopes
 
 Fit-prop : (x : Lists) → IsProp (Fit x)
@@ -38,8 +38,8 @@ problem_of x fit = record {
   scopes = x.scopes;
   classes_fit = fit.0;
   references_fit = fit.1;
-  predicates_fit = fit.2;
-  objects_fit = fit.3;
+  objects_fit = fit.2;
+  predicates_fit = fit.3;
   assertions_fit = fit.4;
   scopes_fit = fit.5;
 }
@@ -76,5 +76,5 @@ same_problem p q classes references predicates objects assertions scopes = same_
       assertions = assertions i;
       scopes = scopes i;
     })
-    (p.classes_fit, p.references_fit, p.predicates_fit, p.objects_fit, p.assertions_fit, p.scopes_fit)
-    (q.classes_fit, q.references_fit, q.predicates_fit, q.objects_fit, q.assertions_fit, q.scopes_fit)
+    (p.classes_fit, p.references_fit, p.objects_fit, p.predicates_fit, p.assertions_fit, p.scopes_fit)
+    (q.classes_fit, q.references_fit, q.objects_fit, q.predicates_fit, q.assertions_fit, q.scopes_fit)

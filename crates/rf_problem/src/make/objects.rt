@@ -91,10 +91,7 @@ fn have_kinds(classes: &[Class], objects: &[ObjectDecl]) -> bool
 fn has_count(object: &ObjectDecl) -> bool
     ensures { IsTrue result ↔ FitsCount object.now.kind object.now.count }
 {
-    let one = Count {
-        lo: 1,
-        hi: Some(1),
-    };
+    let one = Count { lo: 1, hi: Some(1) };
     match object.kind {
         ObjectKind::Plain => true,
         ObjectKind::Atom | ObjectKind::LiteralOf(_) => object.count == one,

@@ -8,4 +8,4 @@ returns-clause-past_rank _ = λ p rank falls depth here inside q t l.
 
 pub returns-clause-of_all : goal.returns-clause-of_all
 returns-clause-of_all _ = λ p depth here inside q t l.
-    predicate_true-of_all p.classes p.references p.predicates p.predicates_fit depth here inside q t l
+    predicate_true-of_all p.classes p.references p.objects p.predicates p.predicates_fit depth here inside q t l

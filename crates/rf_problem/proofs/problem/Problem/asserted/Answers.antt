@@ -5,5 +5,5 @@ use Rattle.rf_problem.proofs.problem.Problem.asserted.Goals as goal
 pub returns : goal.returns
 returns c =
     c.unwrap_or.ensures
-    ∙ asserted-heard c.args.symbol c.args.tuple.now c.args.self.now c.loop-assertion.heard _ _ c.deref-assertion-items.ensures (omega arith)
+    ∙ asserted-heard c.args.symbol c.args.tuple.now c.args.self.now c.unwritten.result c.loop-assertion.heard _ _ c.unwritten.ensures c.deref-assertion-items.ensures (omega arith)
     c.loop-assertion.invariant

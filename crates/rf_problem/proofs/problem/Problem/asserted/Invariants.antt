@@ -6,4 +6,4 @@ use Rattle.rf_problem.proofs.problem.Problem.asserted.Given as goal
 
 abbrev pub invariant-loop-assertion : goal.invariant-loop-assertion
 invariant-loop-assertion l =
-    l.heard ≡ fold (heard_with l.symbol l.tuple) (unheard l.symbol l.tuple l.self.predicates) (take l.assertion-index l.assertion-items)
+    l.heard ≡ fold (heard_with l.symbol l.tuple) (unheard l.symbol l.tuple l.self) (take l.assertion-index l.assertion-items)
