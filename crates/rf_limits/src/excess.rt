@@ -15,7 +15,7 @@ use rf_bounds::{
     MOST_PREDICATES, MOST_REFERENCES, MOST_SCOPES, MOST_VARIABLES,
 };
 use rf_names::{
-    ClauseDeclaration, ClauseRule, Names, OffsetRule, PredicateDeclaration, least_among,
+    Arguments, ClauseDeclaration, ClauseRule, Names, OffsetRule, PredicateDeclaration, least_among,
     least_in_clauses,
 };
 use rf_syntax::{Name, Param};
@@ -104,15 +104,17 @@ impl ClauseRule for PastLiterals {
     }
 }
 
-// The variables of a clause.
+// The variables of a clause. Atoms aren't among them.
 #[derive(Clone, Copy)]
-struct PastVariables {}
+struct PastVariables<'n, 'a> {
+    names: &'n Names<'a>,
+}
 
-impl ClauseRule for PastVariables {
+impl<'n, 'a> ClauseRule for PastVariables<'n, 'a> {
     ghost use Rattle.rf_bounds.specs.declared.TheConstants.{MOST_VARIABLES};
 
     ghost clause_offsets = { λ rule params clause.
-        first_past MOST_VARIABLES (λ name. name) (clause_variables params clause) };
+        first_past MOST_VARIABLES (λ name. name) (clause_variables rule.names.now.declared.now params clause) };
 
     fn least_in_clause(
         &self,
@@ -120,7 +122,8 @@ impl ClauseRule for PastVariables {
         params: &[Param],
         clause: &ClauseDeclaration,
     ) -> Result<Option<u64>, AllocError> {
-        variables_past(alloc, MOST_VARIABLES, params, clause)
+        let arguments = Arguments::of(alloc, self.names, params)?;
+        variables_past(alloc, MOST_VARIABLES, &arguments, clause)
     }
 }
 
@@ -173,7 +176,7 @@ fn offset_past(alloc: Global, names: &Names<'_>, kind: LimitKind) -> Result<Opti
         LimitKind::Parameters => least_among(alloc, &PastParameters {}, predicates)?,
         LimitKind::Clauses => least_among(alloc, &PastClauses {}, predicates)?,
         LimitKind::Literals => least_in_clauses(alloc, &PastLiterals {}, predicates)?,
-        LimitKind::Variables => least_in_clauses(alloc, &PastVariables {}, predicates)?,
+        LimitKind::Variables => least_in_clauses(alloc, &PastVariables { names }, predicates)?,
         LimitKind::Objects => past_lent(MOST_OBJECTS, names.objects()),
         LimitKind::Assertions => past(MOST_ASSERTIONS, declared.assertions.as_slice()),
     })

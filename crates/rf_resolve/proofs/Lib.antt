@@ -12,7 +12,6 @@ pub mod LiteralsFit
 pub mod Made
 pub mod NegationLemmas
 pub mod NumberFacts
-pub mod NumberingLemmas
 pub mod ObjectsFit
 pub mod PairFacts
 pub mod PartsFit
@@ -25,3 +24,4 @@ pub mod ScopesFit
 pub mod SenseLemmas
 pub mod SmallCounts
 pub mod SmallLemmas
+pub mod TermLemmas

@@ -18,7 +18,7 @@ module _ (d : Declared) (limits : (k : LimitKind) → limit_offsets d k ≡ []) 
   few_params = nil-each (λ (p : PredicateDecl). first_past 4 (λ param. param.name) p.params)
       d.predicates (limits Parameters)
 
-  pub small_predicates : All IsSmallPredicate d.predicates
+  pub small_predicates : All (IsSmallPredicate d) d.predicates
   small_predicates k e l =
       let p : PredicateDecl = get_or d.predicates k e in
       let params = few-from_first_past (λ param. param.name) 4 p.params (few_params k e l) in
@@ -30,21 +30,21 @@ module _ (d : Declared) (limits : (k : LimitKind) → limit_offsets d k ≡ []) 
               (offsets_in_clauses-each (λ n params clause. first_past 32 first_name clause) d.predicates
               (limits Literals) k e l j c m);
           variables = few-from_first_past (λ name. name) 8
-              (clause_variables p.params (get_or p.clauses j c))
+              (clause_variables d p.params (get_or p.clauses j c))
               (offsets_in_clauses-each (λ n params clause. first_past 8 (λ name. name)
-              (clause_variables params clause)) d.predicates (limits Variables) k e l j c m);
+              (clause_variables d params clause)) d.predicates (limits Variables) k e l j c m);
         };
       }
 
 -- the literals of a small clause
 pub few_literals :
-    (d : Declared) (params : List Param) (clause : List BodyLiteral) → IsSmallClause params clause
+    (d : Declared) (params : List Param) (clause : List BodyLiteral) → IsSmallClause d params clause
     → length (all_literals d params clause) ≤ 36
 few_literals d params clause small =
     let arity : length params ≤ 4 = small.arity in
     let count : length clause ≤ 32 = small.literals in
-    let written = length-resolved_literals d (param_names params) clause in
+    let written = length-resolved_literals d params (param_names params) clause in
     let typed = length-class_literals d 0 params in
-    let all = length-append (resolved_literals d (param_names params) clause)
+    let all = length-append (resolved_literals d params (param_names params) clause)
     (class_literals d 0 params) in
     omega arith

@@ -1,17 +1,26 @@
 //! Where the variables of a clause are quantified.
 
-ghost use Rattle.std.specs.Prelude.{◌≡◌, ◌==◌, ◌≤◌, IfOk, length, count_by, map, position};
+ghost use Rattle.std.specs.Prelude.{◌≡◌, ◌≤◌, IfOk, length, count_by, map, position};
 ghost use Rattle.std.specs.List.{list_any, range_with_len};
 ghost use Rattle.rf_names.specs.LookUp.{numbers_where};
-ghost use Rattle.rf_resolve.specs.Resolved.{entry_of, mentions, negates, negation_around, only_one};
+ghost use Rattle.rf_resolve.specs.Resolved.{entry_of, is_variable, mentions, negates, negation_around, only_one};
 
-use rf_problem::Literal;
+use rf_problem::{Literal, Term};
 use std::alloc::{AllocError, Global};
 
-fn is_among(args: &[u8], variable: u8) -> bool
-    ensures { result ≡ list_any (λ a. a == variable) args.now }
+fn is_variable(term: Term, variable: u8) -> bool
+    ensures { result ≡ is_variable variable term }
 {
-    args.contains(&variable)
+    match term {
+        Term::Var(number) => number == variable,
+        Term::Atom(_) => false,
+    }
+}
+
+fn is_among(args: &[Term], variable: u8) -> bool
+    ensures { result ≡ list_any (is_variable variable) args.now }
+{
+    args.iter().any(|term| is_variable(*term, variable))
 }
 
 fn mentions(literal: &Literal, variable: u8) -> bool
@@ -19,7 +28,9 @@ fn mentions(literal: &Literal, variable: u8) -> bool
 {
     match literal {
         Literal::Call { args, .. } => is_among(args.as_slice(), variable),
-        Literal::Same(a, b) | Literal::Differ(a, b) => *a == variable || *b == variable,
+        Literal::Same(a, b) | Literal::Differ(a, b) => {
+            is_variable(*a, variable) || is_variable(*b, variable)
+        }
     }
 }
 

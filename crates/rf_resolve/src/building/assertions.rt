@@ -1,10 +1,12 @@
 //! The assertions of a problem.
 
 ghost use Rattle.std.specs.Prelude.{◌≡◌, IfOk, map};
+ghost use Rattle.rf_names.specs.Declarations.{object_name};
 ghost use Rattle.rf_names.specs.LookUp.{class_named, new_object_of, the_number, the_symbol};
 ghost use Rattle.rf_resolve.specs.Resolved.{object_or_new, resolved_arg, resolved_assertion};
 
-use rf_names::{AssertDeclaration, Names, Sense};
+use crate::building::objects::object_number;
+use rf_names::{AssertDeclaration, Names, Sense, reads};
 use rf_problem::{Assertion, Symbol};
 use rf_syntax::{Arg, Name};
 use rf_text::Items;
@@ -31,13 +33,14 @@ fn new_object_number(names: &Names, class: &str) -> u64
     }
 }
 
+// The object that an argument stands for: the member, if it has one other than `new`, else the name.
 fn object_or_new(names: &Names, name: &Name, member: &Option<Name>) -> u64
-    ensures { result ≡ object_or_new names.now.declared.now name.now member.now }
+    ensures { result ≡ object_or_new names.now.declared.now (object_name name.now member.now) name.now }
 {
-    let text = name.text.as_str();
     match member {
-        None => names.object_named(text).unwrap_or(0),
-        Some(_) => new_object_number(names, text),
+        None => object_number(names, name),
+        Some(member) if reads("new", member) => new_object_number(names, name.text.as_str()),
+        Some(member) => object_number(names, member),
     }
 }
 
