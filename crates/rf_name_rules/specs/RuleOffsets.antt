@@ -20,7 +20,7 @@ use Rattle.rf_syntax.specs.declared.class.MultPlace.{MultPlace}
 use Rattle.rf_problem.specs.declared.symbol.Symbol.{Symbol}
 use Rattle.rf_problem.specs.declared.symbol.Symbol.TheVariants.{Equals}
 use Rattle.rf_names.specs.Texts.{is_blank, is_text_of, reads}
-use Rattle.rf_names.specs.LookUp.{has_literal, has_new, class_named, opposites_named, literal_symbols, sense_of, predicate_named, class_decl_at, assertion_symbols, extends_somehow, opposite_of, can_be_closed, parameters_of}
+use Rattle.rf_names.specs.LookUp.{has_new, is_literal_of, class_named, opposites_named, literal_symbols, sense_of, predicate_named, class_decl_at, assertion_symbols, extends_somehow, opposite_of, can_be_closed, parameters_of}
 use Rattle.rf_names.specs.Offsets.{offset_if, offsets_from, offsets_in_literals}
 use Rattle.rf_names.specs.Declarations.{ClassDecl, PredicateDecl, Declared, ReferenceDecl, AssertDecl, kind_of_word, object_name, param_names}
 use Rattle.rf_names.specs.declared.sense.Sense.{Sense}
@@ -113,11 +113,6 @@ is_no_object d n =
 abbrev pub has_no_new : Declared → Option ℕ → Bool
 has_no_new d None = false
 has_no_new d (Some c) = not (has_new (class_decl_at d c))
-
--- whether the class of this number is an enum with this literal
-abbrev pub is_literal_of : Declared → Option ℕ → List ℕ → Bool
-is_literal_of d None text = false
-is_literal_of d (Some c) text = has_literal text (class_decl_at d c)
 
 -- a member after a class in an argument: `new` of a class that has no new object, at the class; another that isn't a literal
 -- of that class, at the member

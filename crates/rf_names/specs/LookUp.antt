@@ -146,6 +146,11 @@ new_object_of d c = length (named_objects d) + count_by has_new (take c d.classe
 abbrev pub has_literal : List ℕ → ClassDecl → Bool
 has_literal text c = list_any (reads text) c.literals
 
+-- whether the class of this number is an enum with this literal
+abbrev pub is_literal_of : Declared → Option ℕ → List ℕ → Bool
+is_literal_of d None text = false
+is_literal_of d (Some c) text = has_literal text (class_decl_at d c)
+
 -- the number of the enum that has this literal
 abbrev pub enum_of : Declared → List ℕ → Option ℕ
 enum_of d text = position (has_literal text) d.classes

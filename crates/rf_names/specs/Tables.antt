@@ -1,5 +1,5 @@
 -- For private functions and fields: tables in which names and their numbers are found without a scan.
-use Rattle.std.specs.Prelude.{ℕ, List, Option, ◌≡◌, position, [], None, Some, option_to_list, not, take, count_by, ◌<◌, length, slice_index_or, Bool, false, slice_get}
+use Rattle.std.specs.Prelude.{ℕ, List, Option, ◌≡◌, position, [], None, Some, option_to_list, not, take, count_by, ◌<◌, length, slice_index_or, Bool, false, slice_get, map, ◌∷◌, ◌++◌, suc}
 use Rattle.std.specs.BTreeMap.{BTreeMap, get_by}
 use Rattle.std.specs.HashMap.{HashMap, get_by as hash_get_by}
 use Rattle.std.specs.Str.{bytes_eq}
@@ -49,6 +49,11 @@ new_before classes c = count_by has_new (take c classes)
 pub record AreCounts (classes : List ClassDecl) (many : ℕ) (counts : List ℕ) : Type 0 where
   pub count : length counts ≡ many
   pub each : (c : ℕ) → c < many → slice_index_or counts c 0 ≡ new_before classes c
+
+-- for each of the literals of these classes, which have the numbers from n on, the number of its class
+abbrev pub owners_from : ℕ → List ClassDecl → List ℕ
+owners_from n [] = []
+owners_from n (c ∷ cs) = map (λ l. n) c.literals ++ owners_from (suc n) cs
 
 -- whether there is an item, and it passes
 abbrev pub some_passes : {T : Type 0} → (T → Bool) → Option T → Bool

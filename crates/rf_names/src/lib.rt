@@ -14,15 +14,20 @@
 //! the least of them (`specs/Offsets`, `lesser` and `offset_if`).
 #![tactic(auto)]
 
+mod arguments;
 mod bodies;
+mod class_tables;
 mod counts;
 mod declarations;
+mod enum_tables;
 mod gather;
 mod kind;
 mod listing;
 mod members;
+mod mentions;
 mod names;
 mod numbering;
+mod object_tables;
 mod offsets;
 mod opposites;
 mod parts;
@@ -31,9 +36,13 @@ mod sense;
 mod senses;
 mod supers;
 
-pub use bodies::{is_blank, names_of_literals, names_of_params, reads};
+pub use arguments::Arguments;
+pub use bodies::{
+    is_blank, names_of_arguments, names_of_literal, names_of_literals, names_of_params, push_argument_names, reads,
+};
 pub use declarations::Declarations;
 pub use kind::kind_of;
+pub use mentions::object_name;
 pub use names::Names;
 pub use numbering::Numbering;
 pub use offsets::{

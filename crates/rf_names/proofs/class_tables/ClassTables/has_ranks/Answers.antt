@@ -3,7 +3,7 @@ use Rattle.std.proofs.lemmas.List.{length-map}
 use Rattle.rf_names.specs.Tables.{numbers_among}
 use Rattle.rf_names.proofs.RankLemmas.{no_walk_back-from_ranks}
 use Rattle.rf_names.proofs.SuperLemmas.{extends_marked}
-use Rattle.rf_names.proofs.names.Names.is_clear_of_cycles.Goals as goal
+use Rattle.rf_names.proofs.class_tables.ClassTables.has_ranks.Goals as goal
 
 pub returns : goal.returns
 returns c =

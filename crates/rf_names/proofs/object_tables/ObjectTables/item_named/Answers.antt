@@ -1,6 +1,6 @@
 use Rattle.std.proofs.Common.{None, Some, refl, sym, ap}
 use Rattle.rf_names.proofs.NamedLemmas.{item_missing, item_position, item_read}
-use Rattle.rf_names.proofs.names.Names.item_named.Goals as goal
+use Rattle.rf_names.proofs.object_tables.ObjectTables.item_named.Goals as goal
 
 pub returns-in-None : goal.returns-in-None
 returns-in-None c = sym (item_missing c.args.self.now.declared.now _ c.args.text.now None c.args.self.now.of_items c.in-None.ensures refl)

@@ -2,7 +2,7 @@ use Rattle.std.proofs.Common.{◌≡◌, ◌∙◌, sym, ap, arith, length, map}
 use Rattle.std.proofs.lemmas.List.{length-map}
 use Rattle.rf_names.specs.Tables.{numbers_among}
 use Rattle.rf_names.proofs.SuperLemmas.{extends_marked}
-use Rattle.rf_names.proofs.names.Names.classes_above.Goals as goal
+use Rattle.rf_names.proofs.class_tables.ClassTables.above.Goals as goal
 
 pub returns-clause-value : goal.returns-clause-value
 returns-clause-value c =

@@ -1,6 +1,6 @@
 use Rattle.std.proofs.Common.{ap}
 use Rattle.rf_names.proofs.NamedLemmas.{item_names-all}
-use Rattle.rf_names.proofs.names.item_names.Goals as goal
+use Rattle.rf_names.proofs.object_tables.item_names.Goals as goal
 
 pub returns : goal.returns
 returns c =

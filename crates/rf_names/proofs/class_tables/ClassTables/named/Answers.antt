@@ -1,6 +1,6 @@
 use Rattle.std.proofs.Common.{None, Some}
 use Rattle.rf_names.proofs.NamedLemmas.{class_found}
-use Rattle.rf_names.proofs.names.Names.class_named.Goals as goal
+use Rattle.rf_names.proofs.class_tables.ClassTables.named.Goals as goal
 
 pub returns-in-None : goal.returns-in-None
 returns-in-None c = class_found c.args.self.now.declared.now _ c.args.text.now None c.args.self.now.of_classes c.in-None.ensures
