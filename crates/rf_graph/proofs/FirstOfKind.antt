@@ -15,6 +15,8 @@ use Rattle.rf_problem.specs.Parts.{arity_of, object_at, reference_at, scope_at}
 use Rattle.rf_problem.specs.Classes.{class_at, is_below}
 use Rattle.rf_problem.specs.Contained.{is_contained_class}
 use Rattle.rf_problem.specs.Valid.{is_declared}
+use Rattle.rf_problem.specs.declared.object.ObjectKind.{ObjectKind}
+use Rattle.rf_problem.specs.declared.object.ObjectKind.TheVariants.{Plain, Atom, LiteralOf}
 use Rattle.rf_problem.specs.declared.object.ObjectName.{ObjectName}
 use Rattle.rf_problem.specs.declared.object.ObjectName.TheVariants.{Named, NewOf}
 use Rattle.rf_problem.specs.declared.problem.Problem.{Problem}
@@ -22,10 +24,10 @@ use Rattle.rf_problem.specs.declared.symbol.Symbol.{Symbol}
 use Rattle.rf_problem.specs.declared.symbol.Symbol.TheVariants.{Class as OfClass, Reference, Predicate, Exists, Equals}
 use Rattle.rf_problem.proofs.Below.{IsBelow-from_is_below, is_below-from_IsBelow}
 use Rattle.rf_graph.specs.Evaluate.{holds}
-use Rattle.rf_graph.specs.First.{breaks, first_asserted, first_broken, first_class, first_containers, first_cycle, first_degree, first_edge, first_edge_of, first_object, first_opposite, first_scope, fits_ends, has_mirror, has_stranger, is_in_range, is_wrongly_contained, may_have_class, when}
+use Rattle.rf_graph.specs.First.{breaks, first_asserted, first_broken, first_class, first_containers, first_cycle, first_degree, first_edge, first_edge_of, first_object, first_opposite, first_scope, fits_ends, has_mirror, has_stranger, is_in_range, is_native, is_wrongly_contained, may_have_class, when}
 use Rattle.rf_graph.specs.Graph.{Fits, FitsEdge, HasEdge, class_of, has_edge, origin_of, size_of}
 use Rattle.rf_graph.specs.Holds.{Holds}
-use Rattle.rf_graph.specs.Violations.{Breaks, HasStranger, IsBroken, IsWronglyContained, IsMisplaced, IsOfAbstractClass, IsOffScope, IsOnCycle, IsOneWay, IsOutOfRange, IsUnsatisfied, container_count, degree_of, contains_in, is_counted, nodes_from, sort_key}
+use Rattle.rf_graph.specs.Violations.{Breaks, HasStranger, IsBroken, IsWronglyContained, IsMisplaced, IsOfAbstractClass, IsOffScope, IsOnCycle, IsOneWay, IsOutOfRange, IsUnsatisfied, MayHaveClass, container_count, degree_of, contains_in, is_counted, nodes_from, sort_key}
 use Rattle.rf_graph.specs.declared.graph.Graph.{Graph}
 use Rattle.rf_graph.specs.declared.verdict.Violation.{Violation}
 use Rattle.rf_graph.specs.declared.verdict.Violation.TheVariants.{Class, Edge, Opposite, Degree, Containers, Cycle, Object, Asserted, Scope}
@@ -200,28 +202,39 @@ module _ (p : Problem) (g : Graph) where
   abbrev pub Unsatisfied : Violation → Type 0
   Unsatisfied v = (o : ℕ) × (v ≡ Object o) × IsUnsatisfied p g o
 
-  other-from_test : (name : ObjectName) (c : ℕ) → may_have_class name c ≡ false → (k : ℕ) × (name ≡ NewOf k) × (c ≢ k)
-  other-from_test (Named name) c h = absurd (true≢false h)
-  other-from_test (NewOf k) c h = (k, refl, eqb-false c k h)
+  MayHaveClass-from_test : (name : ObjectName) (kind : ObjectKind) (c : ℕ) → may_have_class p.classes name kind c ≡ true → MayHaveClass p.classes name kind c
+  MayHaveClass-from_test (NewOf k) kind c h = eqb-true c k h
+  MayHaveClass-from_test (Named name) (LiteralOf e) c h = eqb-true c e h
+  MayHaveClass-from_test (Named name) Plain c h = not-true (class_at p.classes c).is_enum h
+  MayHaveClass-from_test (Named name) Atom c h = not-true (class_at p.classes c).is_enum h
 
-  test-from_other : (name : ObjectName) (c k : ℕ) → name ≡ NewOf k → c ≢ k → may_have_class name c ≡ false
-  test-from_other name c k e ne = subst (λ (name : ObjectName). may_have_class name c ≡ false) (sym e) (ne_eqb c k ne)
+  test-from_MayHaveClass : (name : ObjectName) (kind : ObjectKind) (c : ℕ) → MayHaveClass p.classes name kind c → may_have_class p.classes name kind c ≡ true
+  test-from_MayHaveClass (NewOf k) kind c h = eq-eqb c k h
+  test-from_MayHaveClass (Named name) (LiteralOf e) c h = eq-eqb c e h
+  test-from_MayHaveClass (Named name) Plain c h = not_from_false (class_at p.classes c).is_enum h
+  test-from_MayHaveClass (Named name) Atom c h = not_from_false (class_at p.classes c).is_enum h
 
-  -- whether node x is such a stranger to object o
+  -- whether node x is a stranger to object o
   abbrev is_stranger : ℕ → ℕ → Bool
-  is_stranger o x = origin_of g x == o && not (may_have_class (object_at p.objects o).name (class_of g x))
+  is_stranger o x = origin_of g x == o && not (is_native p g o x)
 
   HasStranger-from_test : (o : ℕ) → has_stranger p g o ≡ true → HasStranger p g o
   HasStranger-from_test o h =
       let one = one-from_some_below (size_of g) (is_stranger o) h in
-      let parts = and_parts (origin_of g one.0 == o) (not (may_have_class (object_at p.objects o).name (class_of g one.0))) one.2 in
-      let other = other-from_test (object_at p.objects o).name (class_of g one.0) (not-true (may_have_class (object_at p.objects o).name (class_of g one.0)) parts.1) in
-      record { x = one.0; c = other.0; node = one.1; origin = eqb-true (origin_of g one.0) o parts.0; new_of = other.1; other = other.2 }
+      let parts = and_parts (origin_of g one.0 == o) (not (is_native p g o one.0)) one.2 in
+      record {
+        x = one.0;
+        node = one.1;
+        origin = eqb-true (origin_of g one.0) o parts.0;
+        other = λ may. both_ways (is_native p g o one.0) (not-true (is_native p g o one.0) parts.1)
+            (test-from_MayHaveClass (object_at p.objects o).name (object_at p.objects o).kind (class_of g one.0) may);
+      }
 
   test-from_HasStranger : (o : ℕ) → HasStranger p g o → has_stranger p g o ≡ true
   test-from_HasStranger o s = some_below-from_one (size_of g) (is_stranger o) s.x s.node
-      (and_from (origin_of g s.x == o) (not (may_have_class (object_at p.objects o).name (class_of g s.x))) (eq-eqb (origin_of g s.x) o s.origin)
-      (not_from_false (may_have_class (object_at p.objects o).name (class_of g s.x)) (test-from_other (object_at p.objects o).name (class_of g s.x) s.c s.new_of s.other)))
+      (and_from (origin_of g s.x == o) (not (is_native p g o s.x)) (eq-eqb (origin_of g s.x) o s.origin)
+      (not_from_false (is_native p g o s.x) (false_from_ne_true (is_native p g o s.x) (λ may.
+      s.other (MayHaveClass-from_test (object_at p.objects o).name (object_at p.objects o).kind (class_of g s.x) may)))))
 
   abbrev is_unsatisfied : ℕ → Bool
   is_unsatisfied o = not (contains (admitted p o) (nodes_from g o)) || has_stranger p g o

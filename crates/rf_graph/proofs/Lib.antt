@@ -1,4 +1,3 @@
-pub mod Atoms
 pub mod BadLines
 pub mod Documents
 pub mod Edges
@@ -8,7 +7,6 @@ pub mod Firsts
 pub mod Grown
 pub mod Index
 pub mod Lines
-pub mod Literals
 pub mod Meaning
 pub mod ProblemNames
 pub mod Seen

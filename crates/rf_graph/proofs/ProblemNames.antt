@@ -10,7 +10,7 @@ use Rattle.rf_text.specs.Written.{CanBeQuoted, is_bare, written_name}
 use Rattle.rf_text.proofs.WrittenLemmas.{one_written, quoted, written_bare, written_injective, written_quoted}
 use Rattle.rf_problem.specs.Parts.{no_object, no_reference, object_at, reference_at}
 use Rattle.rf_problem.specs.Classes.{class_at, no_class}
-use Rattle.rf_problem.specs.Valid.{concrete_numbers, is_named, named_objects, new_object}
+use Rattle.rf_problem.specs.Valid.{has_new, is_named, named_objects, new_numbers, new_object}
 use Rattle.rf_problem.specs.declared.class.Class.{Class}
 use Rattle.rf_problem.specs.declared.object.ObjectDecl.{ObjectDecl}
 use Rattle.rf_problem.specs.declared.object.ObjectName.{ObjectName}
@@ -84,30 +84,30 @@ NoBreak-reference p r h =
     let class = NoBreak-class p (reference_at p.references r).source (p.references_fit.sources r no_reference h) in
     All-same P _ _ (reference_name-read p r h) (All-append P _ _ class (All-append P (codes "::") _ NoBreak-colons last))
 
--- the numbers of the classes that aren't abstract
-concrete_above : (n : ℕ) (cs : List Class) (j : ℕ) → j < length (concrete_numbers n cs) → n ≤ get_or (concrete_numbers n cs) j 0
-concrete_above n [] j h = absurd (omega arith)
-concrete_above n (c ∷ cs) j h = elim (cases_Bool c.is_abstract) [
-  | inl skipped ↦ (let fewer : concrete_numbers n (c ∷ cs) ≡ concrete_numbers (suc n) cs = ap (λ b. if b then concrete_numbers (suc n) cs else n ∷ concrete_numbers (suc n) cs) skipped in
-      let room : j < length (concrete_numbers (suc n) cs) = subst (λ l. j < length l) fewer h in
-      let ih = concrete_above (suc n) cs j room in
+-- the numbers of the classes that have objects for their new nodes
+new_above : (n : ℕ) (cs : List Class) (j : ℕ) → j < length (new_numbers n cs) → n ≤ get_or (new_numbers n cs) j 0
+new_above n [] j h = absurd (omega arith)
+new_above n (c ∷ cs) j h = elim (cases_Bool (has_new c)) [
+  | inr skipped ↦ (let fewer : new_numbers n (c ∷ cs) ≡ new_numbers (suc n) cs = ap (λ b. if b then n ∷ new_numbers (suc n) cs else new_numbers (suc n) cs) skipped in
+      let room : j < length (new_numbers (suc n) cs) = subst (λ l. j < length l) fewer h in
+      let ih = new_above (suc n) cs j room in
       rw fewer (omega (arith, ih)))
-  | inr kept ↦ (let more : concrete_numbers n (c ∷ cs) ≡ n ∷ concrete_numbers (suc n) cs = ap (λ b. if b then concrete_numbers (suc n) cs else n ∷ concrete_numbers (suc n) cs) kept in
-      rw more (at_head n (concrete_numbers (suc n) cs) j (subst (λ l. j < length l) more h) (λ k within. concrete_above (suc n) cs k within)))
+  | inl kept ↦ (let more : new_numbers n (c ∷ cs) ≡ n ∷ new_numbers (suc n) cs = ap (λ b. if b then n ∷ new_numbers (suc n) cs else new_numbers (suc n) cs) kept in
+      rw more (at_head n (new_numbers (suc n) cs) j (subst (λ l. j < length l) more h) (λ k within. new_above (suc n) cs k within)))
 ]
   where
     at_head : (n : ℕ) (rest : List ℕ) (j : ℕ) → j < length (n ∷ rest) → ((k : ℕ) → k < length rest → suc n ≤ get_or rest k 0) → n ≤ get_or (n ∷ rest) j 0
     at_head n rest zero h below = omega arith
     at_head n rest (suc k) h below = let ih = below k (omega arith) in omega (arith, ih)
 
-concrete_below : (n : ℕ) (cs : List Class) (j : ℕ) → j < length (concrete_numbers n cs) → get_or (concrete_numbers n cs) j 0 < n + length cs
-concrete_below n [] j h = absurd (omega arith)
-concrete_below n (c ∷ cs) j h = elim (cases_Bool c.is_abstract) [
-  | inl skipped ↦ (let fewer : concrete_numbers n (c ∷ cs) ≡ concrete_numbers (suc n) cs = ap (λ b. if b then concrete_numbers (suc n) cs else n ∷ concrete_numbers (suc n) cs) skipped in
-      let ih = concrete_below (suc n) cs j (subst (λ l. j < length l) fewer h) in
+new_below : (n : ℕ) (cs : List Class) (j : ℕ) → j < length (new_numbers n cs) → get_or (new_numbers n cs) j 0 < n + length cs
+new_below n [] j h = absurd (omega arith)
+new_below n (c ∷ cs) j h = elim (cases_Bool (has_new c)) [
+  | inr skipped ↦ (let fewer : new_numbers n (c ∷ cs) ≡ new_numbers (suc n) cs = ap (λ b. if b then n ∷ new_numbers (suc n) cs else new_numbers (suc n) cs) skipped in
+      let ih = new_below (suc n) cs j (subst (λ l. j < length l) fewer h) in
       rw fewer (omega (arith, ih)))
-  | inr kept ↦ (let more : concrete_numbers n (c ∷ cs) ≡ n ∷ concrete_numbers (suc n) cs = ap (λ b. if b then concrete_numbers (suc n) cs else n ∷ concrete_numbers (suc n) cs) kept in
-      rw more (at_head n (length cs) (concrete_numbers (suc n) cs) j (subst (λ l. j < length l) more h) (λ k within. concrete_below (suc n) cs k within)))
+  | inl kept ↦ (let more : new_numbers n (c ∷ cs) ≡ n ∷ new_numbers (suc n) cs = ap (λ b. if b then n ∷ new_numbers (suc n) cs else new_numbers (suc n) cs) kept in
+      rw more (at_head n (length cs) (new_numbers (suc n) cs) j (subst (λ l. j < length l) more h) (λ k within. new_below (suc n) cs k within)))
 ]
   where
     at_head : (n m : ℕ) (rest : List ℕ) (j : ℕ) → j < length (n ∷ rest) → ((k : ℕ) → k < length rest → get_or rest k 0 < suc n + m) → get_or (n ∷ rest) j 0 < n + suc m
@@ -115,16 +115,16 @@ concrete_below n (c ∷ cs) j h = elim (cases_Bool c.is_abstract) [
     at_head n m rest (suc k) h below = let ih = below k (omega arith) in omega (arith, ih)
 
 -- they ascend
-concrete_ascend :
-    (n : ℕ) (cs : List Class) (i j : ℕ) → i < j → j < length (concrete_numbers n cs) →
-    get_or (concrete_numbers n cs) i 0 < get_or (concrete_numbers n cs) j 0
-concrete_ascend n [] i j before h = absurd (omega arith)
-concrete_ascend n (c ∷ cs) i j before h = elim (cases_Bool c.is_abstract) [
-  | inl skipped ↦ (let fewer : concrete_numbers n (c ∷ cs) ≡ concrete_numbers (suc n) cs = ap (λ b. if b then concrete_numbers (suc n) cs else n ∷ concrete_numbers (suc n) cs) skipped in
-      rw fewer (concrete_ascend (suc n) cs i j before (subst (λ l. j < length l) fewer h)))
-  | inr kept ↦ (let more : concrete_numbers n (c ∷ cs) ≡ n ∷ concrete_numbers (suc n) cs = ap (λ b. if b then concrete_numbers (suc n) cs else n ∷ concrete_numbers (suc n) cs) kept in
-      rw more (at_head n (concrete_numbers (suc n) cs) i j before (subst (λ l. j < length l) more h) (λ k within. concrete_above (suc n) cs k within)
-      (λ k m lt within. concrete_ascend (suc n) cs k m lt within)))
+new_ascend :
+    (n : ℕ) (cs : List Class) (i j : ℕ) → i < j → j < length (new_numbers n cs) →
+    get_or (new_numbers n cs) i 0 < get_or (new_numbers n cs) j 0
+new_ascend n [] i j before h = absurd (omega arith)
+new_ascend n (c ∷ cs) i j before h = elim (cases_Bool (has_new c)) [
+  | inr skipped ↦ (let fewer : new_numbers n (c ∷ cs) ≡ new_numbers (suc n) cs = ap (λ b. if b then n ∷ new_numbers (suc n) cs else new_numbers (suc n) cs) skipped in
+      rw fewer (new_ascend (suc n) cs i j before (subst (λ l. j < length l) fewer h)))
+  | inl kept ↦ (let more : new_numbers n (c ∷ cs) ≡ n ∷ new_numbers (suc n) cs = ap (λ b. if b then n ∷ new_numbers (suc n) cs else new_numbers (suc n) cs) kept in
+      rw more (at_head n (new_numbers (suc n) cs) i j before (subst (λ l. j < length l) more h) (λ k within. new_above (suc n) cs k within)
+      (λ k m lt within. new_ascend (suc n) cs k m lt within)))
 ]
   where
     at_head :
@@ -159,15 +159,15 @@ new_place (q ∷ named) numbers (x ∷ objects) (suc o) c each same within is =
 
 new_place-problem :
     (p : Problem) (o c : ℕ) → o < length p.objects → (object_at p.objects o).name ≡ NewOf c →
-    (k : ℕ) × (o ≡ length (named_objects p.objects) + k) × (k < length (concrete_numbers 0 p.classes)) × (get_or (concrete_numbers 0 p.classes) k 0 ≡ c)
+    (k : ℕ) × (o ≡ length (named_objects p.objects) + k) × (k < length (new_numbers 0 p.classes)) × (get_or (new_numbers 0 p.classes) k 0 ≡ c)
 new_place-problem p o c =
-    new_place (named_objects p.objects) (concrete_numbers 0 p.classes) p.objects o c (filter_passes (λ q. is_named q.name) p.objects) p.objects_fit.stocked
+    new_place (named_objects p.objects) (new_numbers 0 p.classes) p.objects o c (filter_passes (λ q. is_named q.name) p.objects) p.objects_fit.stocked
 
 -- an object that has no name of its own is that of a class, and of each class there is one
 pub new_class : (p : Problem) (o c : ℕ) → o < length p.objects → (object_at p.objects o).name ≡ NewOf c → c < length p.classes
 new_class p o c within is =
     let place = new_place-problem p o c within is in
-    let below = concrete_below 0 p.classes place.0 place.2 in
+    let below = new_below 0 p.classes place.0 place.2 in
     omega (arith, below, place.3)
 
 pub one_new :
@@ -176,11 +176,11 @@ pub one_new :
 one_new p o q c ho hq io iq =
     let x = new_place-problem p o c ho io in
     let y = new_place-problem p q c hq iq in
-    let numbers = concrete_numbers 0 p.classes in
+    let numbers = new_numbers 0 p.classes in
     elim (cases_lt x.0 y.0) [
-      | inl before ↦ (let less = concrete_ascend 0 p.classes x.0 y.0 before y.2 in absurd (omega (arith, less, x.3, y.3)))
+      | inl before ↦ (let less = new_ascend 0 p.classes x.0 y.0 before y.2 in absurd (omega (arith, less, x.3, y.3)))
       | inr above ↦ elim (cases_lt y.0 x.0) [
-        | inl before ↦ (let less = concrete_ascend 0 p.classes y.0 x.0 before x.2 in absurd (omega (arith, less, x.3, y.3)))
+        | inl before ↦ (let less = new_ascend 0 p.classes y.0 x.0 before x.2 in absurd (omega (arith, less, x.3, y.3)))
         | inr neither ↦ omega (arith, x.1, y.1)
       ]
     ]

@@ -4,10 +4,10 @@ use Rattle.rf_problem.specs.Classes.{is_below}
 use Rattle.rf_problem.specs.Reading.{Reading, predicate_true, symbol_true}
 use Rattle.rf_problem.specs.declared.problem.Problem.{Problem}
 use Rattle.rf_problem.specs.declared.symbol.Symbol.{Symbol}
-use Rattle.rf_graph.specs.Graph.{class_of, has_edge, size_of}
+use Rattle.rf_graph.specs.Graph.{class_of, has_edge, origin_of, size_of}
 use Rattle.rf_graph.specs.declared.graph.Graph.{Graph}
 
--- a graph read at its nodes: variables range over all of them
+-- a graph read at its nodes: variables range over all of them, and each comes from its object
 abbrev pub graph_reading : Problem → Graph → Reading
 graph_reading p g = record {
   size = size_of g;
@@ -16,6 +16,7 @@ graph_reading p g = record {
   has_edge = λ r x y. has_edge g r x y;
   is_same = λ x y. x == y;
   is_different = λ x y. not (x == y);
+  origin = origin_of g;
 }
 
 -- whether a symbol holds at a tuple of nodes; calls go no deeper than there are predicates

@@ -10,6 +10,9 @@ use Rattle.rf_problem.specs.Asserted.{admitted, asserted}
 use Rattle.rf_problem.specs.Parts.{arity_of, object_at, reference_at, scope_at}
 use Rattle.rf_problem.specs.Classes.{class_at, is_below}
 use Rattle.rf_problem.specs.Contained.{is_contained_class}
+use Rattle.rf_problem.specs.declared.class.Class.{Class as ClassDecl}
+use Rattle.rf_problem.specs.declared.object.ObjectKind.{ObjectKind}
+use Rattle.rf_problem.specs.declared.object.ObjectKind.TheVariants.{Plain, Atom, LiteralOf}
 use Rattle.rf_problem.specs.declared.object.ObjectName.{ObjectName}
 use Rattle.rf_problem.specs.declared.object.ObjectName.TheVariants.{Named, NewOf}
 use Rattle.rf_problem.specs.declared.problem.Problem.{Problem}
@@ -74,14 +77,19 @@ first_containers p g = first_below (size_of g) (λ z. when (is_wrongly_contained
 abbrev pub first_cycle : Problem → Graph → Option Violation
 first_cycle p g = first_below (size_of g) (λ x. when (walk_below (contains_in p g) (λ y. true) (size_of g) x x) (Cycle x))
 
--- whether a node of an object that is called so may have class c
-abbrev pub may_have_class : ObjectName → ℕ → Bool
-may_have_class (Named name) c = true
-may_have_class (NewOf k) c = c == k
+-- whether a node of class c may come from an object of this name and kind
+abbrev pub may_have_class : List ClassDecl → ObjectName → ObjectKind → ℕ → Bool
+may_have_class classes (NewOf k) kind c = c == k
+may_have_class classes (Named name) (LiteralOf e) c = c == e
+may_have_class classes (Named name) Plain c = not (class_at classes c).is_enum
+may_have_class classes (Named name) Atom c = not (class_at classes c).is_enum
+
+-- whether node x may come from object o by its class
+abbrev pub is_native : Problem → Graph → ℕ → ℕ → Bool
+is_native p g o x = may_have_class p.classes (object_at p.objects o).name (object_at p.objects o).kind (class_of g x)
 
 abbrev pub has_stranger : Problem → Graph → ℕ → Bool
-has_stranger p g o =
-    some_below (size_of g) (λ x. origin_of g x == o && not (may_have_class (object_at p.objects o).name (class_of g x)))
+has_stranger p g o = some_below (size_of g) (λ x. origin_of g x == o && not (is_native p g o x))
 
 abbrev pub first_object : Problem → Graph → Option Violation
 first_object p g = first_below (length p.objects) (λ o.

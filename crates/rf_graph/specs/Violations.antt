@@ -14,7 +14,11 @@ use Rattle.rf_problem.specs.Parts.{arity_of, is_contains, object_at, reference_a
 use Rattle.rf_problem.specs.Classes.{IsBelow, class_at, is_below}
 use Rattle.rf_problem.specs.Contained.{is_contained_class}
 use Rattle.rf_problem.specs.Valid.{is_declared, is_named}
-use Rattle.rf_problem.specs.declared.object.ObjectName.TheVariants.{NewOf}
+use Rattle.rf_problem.specs.declared.class.Class.{Class as ClassDecl}
+use Rattle.rf_problem.specs.declared.object.ObjectKind.{ObjectKind}
+use Rattle.rf_problem.specs.declared.object.ObjectKind.TheVariants.{Plain, Atom, LiteralOf}
+use Rattle.rf_problem.specs.declared.object.ObjectName.{ObjectName}
+use Rattle.rf_problem.specs.declared.object.ObjectName.TheVariants.{Named, NewOf}
 use Rattle.rf_problem.specs.declared.problem.Problem.{Problem}
 use Rattle.rf_problem.specs.declared.scope.Scope.{Scope as Bound}
 use Rattle.rf_problem.specs.declared.symbol.Symbol.{Symbol}
@@ -83,14 +87,20 @@ pub record IsOnCycle (p : Problem) (g : Graph) (x : ℕ) : Type 0 where
 abbrev pub nodes_from : Graph → ℕ → ℕ
 nodes_from g o = count_below (size_of g) (λ x. origin_of g x == o)
 
--- a node comes from object o, which is the new object of another class than the node's
+-- a node of class c may come from an object of this name and kind: from `C::new` where its class is C, from a literal where
+-- it is the literal's enum, and from another named object where it is no enum
+abbrev pub MayHaveClass : List ClassDecl → ObjectName → ObjectKind → ℕ → Type 0
+MayHaveClass classes (NewOf k) kind c = c ≡ k
+MayHaveClass classes (Named name) (LiteralOf e) c = c ≡ e
+MayHaveClass classes (Named name) Plain c = (class_at classes c).is_enum ≡ false
+MayHaveClass classes (Named name) Atom c = (class_at classes c).is_enum ≡ false
+
+-- a node comes from object o, and has a class that no node of it may have
 pub record HasStranger (p : Problem) (g : Graph) (o : ℕ) : Type 0 where
   pub x : ℕ
-  pub c : ℕ
   pub node : x < size_of g
   pub origin : origin_of g x ≡ o
-  pub new_of : (object_at p.objects o).name ≡ NewOf c
-  pub other : class_of g x ≢ c
+  pub other : MayHaveClass p.classes (object_at p.objects o).name (object_at p.objects o).kind (class_of g x) → ⊥
 
 -- object o has a number of nodes that it doesn't admit, or a node of a class that it may not have
 pub record IsUnsatisfied (p : Problem) (g : Graph) (o : ℕ) : Type 0 where

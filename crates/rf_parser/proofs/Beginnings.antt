@@ -1,5 +1,5 @@
 -- With which kinds statements begin.
-use Rattle.std.proofs.Common.{◌≡◌, Bool, true, false, List, ◌++◌, Option, Some, inl, inr, sym, ◌∙◌}
+use Rattle.std.proofs.Common.{◌≡◌, ◌⊎◌, Bool, true, false, List, ◌∷◌, ◌++◌, Option, Some, inl, inr, sym, ◌∙◌}
 use Rattle.rf_lexer.specs.declared.keyword.Keyword.{Keyword}
 use Rattle.rf_lexer.specs.declared.keyword.Keyword.TheVariants.{Abstract, Atom, Class as ClassWord, Declare as DeclareWord, Default, Enum as EnumWord, Error as ErrorWord, Multi as MultiWord, Pred as PredWord, Scope as ScopeWord}
 use Rattle.rf_lexer.specs.declared.token.Kind.{Kind}
@@ -11,12 +11,13 @@ use Rattle.rf_syntax.specs.declared.name.Name.{Name}
 use Rattle.rf_syntax.specs.declared.statement.Statement.{Statement}
 use Rattle.rf_syntax.specs.declared.statement.Statement.TheVariants.{Class, Enum, Predicate, Declare, Multi, Atoms, Scope, Assert}
 use Rattle.rf_syntax.specs.Name.{kind_of_name}
-use Rattle.rf_syntax.specs.Piece.{kinds_of}
+use Rattle.rf_syntax.specs.Piece.{Piece, kinds_of, terminal}
 use Rattle.rf_syntax.specs.Statement.{statement_pieces}
 use Rattle.rf_syntax.specs.Terminals.{atom_word, bang, declare_word, default_word, enum_word, multi_word, question, scope_word}
-use Rattle.rf_parser.specs.Private.Parts.{BeginsClass, BeginsNoWord, BeginsPredicate}
-use Rattle.rf_parser.specs.Private.Parsing.{first_kind}
+use Rattle.rf_parser.specs.Private.Parts.{BeginsClass, BeginsNoWord, BeginsPredicate, single}
+use Rattle.rf_parser.specs.Private.Parsing.{first_kind, never}
 use Rattle.rf_parser.proofs.NameParts.{name_no_word}
+use Rattle.rf_parser.proofs.Wholes.{IsCase, pair}
 
 -- the kind is one with which such a statement begins
 abbrev pub Begun : Statement → Option Kind → Type 0
@@ -65,3 +66,16 @@ begun (Multi items) more next e = sym e
 begun (Atoms names) more next e = sym e
 begun (Scope bounds) more next e = sym e
 begun (Assert is_default a) more next e = assert_begun is_default a more next e
+
+-- where a word is first, a statement is made so of what follows the word
+pub word_case : {A : Type 0} (word : Kind) (rest : A → List Piece) (make : A → Statement) → ((a : A) → statement_pieces (make a) ≡ terminal word ∷ rest a)
+    → ((s : Statement) → ((a : A) × (make a ≡ s)) ⊎ (Begun s (Some word) → ⊥))
+    → (next : Option Kind) → next ≡ Some word → IsCase (pair (single word) rest) never statement_pieces never next (λ p. make p.1)
+word_case word rest make same cases next e = record {
+  same = λ p. same p.1;
+  ends = λ more h. h;
+  cases = λ s. elim (cases s) [
+    | inl made ↦ inl ((tt, made.0), made.1)
+    | inr other ↦ inr (λ more h f. other (begun s more (Some word) (f ∙ e)))
+  ];
+}

@@ -67,9 +67,6 @@ param_case next = record { same = λ p. same p.0 p.1; ends = λ more h. h; cases
   made None name = ((name, None), refl)
   made (Some first) name = ((first, Some name), refl)
 
-pub name_begins : NeverBegins name_pieces right_paren
-name_begins n more e = name_no_mark n RightParen (let both = e in cc)
-
 pub param_begins : NeverBegins param_pieces right_paren
 param_begins p more e = begins p.class p.name more e where
   begins : (class : Option Name) (name : Name) (more : List Kind) → first_kind (kinds_of (optional name_pieces class ++ name_pieces name) ++ more) ≡ Some right_paren → ⊥
@@ -187,8 +184,8 @@ predicate_case next begins = record {
   cases : (s : Statement) → ((p : PredicateWord × (Name × (List Param × (Unit {0} × (NonEmpty (NonEmpty BodyLiteral) × Unit {0}))))) × (Predicate p.0 p.1.0 p.1.1.0 p.1.1.1.1.0 ≡ s)) ⊎ Begins statement_pieces never next s
   cases (Class true n s b) = inr (λ more h e. not_both _ (λ x. cc) (λ x. cc) e)
   cases (Class false n s b) = inr (λ more h e. not_both _ (λ x. cc) (λ x. cc) e)
-  cases (Predicate start name params clauses) = inl ((start, (name, (params, (tt, (clauses, tt))))), refl)
   cases (Enum n ls) = inr (λ more h e. not_both _ (λ x. cc) (λ x. cc) e)
+  cases (Predicate start name params clauses) = inl ((start, (name, (params, (tt, (clauses, tt))))), refl)
   cases (Declare names) = inr (λ more h e. not_both _ (λ x. cc) (λ x. cc) e)
   cases (Multi items) = inr (λ more h e. not_both _ (λ x. cc) (λ x. cc) e)
   cases (Atoms names) = inr (λ more h e. not_both _ (λ x. cc) (λ x. cc) e)

@@ -1,4 +1,4 @@
-ghost use Rattle.std.specs.Prelude.{IfOk, IfErr};
+ghost use Rattle.std.specs.Prelude.{◌≡◌, IfOk, IfErr};
 ghost use Rattle.rf_syntax.specs.Parts.{optional_after, each_after, separated};
 ghost use Rattle.rf_syntax.specs.Terminals.{comma, right_paren};
 ghost use Rattle.rf_parser.specs.Private.Parts.{kind_of, listed_in_parens, listed_to};

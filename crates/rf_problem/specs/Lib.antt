@@ -6,6 +6,8 @@ pub mod Made
 pub mod Contained
 pub mod Asserted
 pub mod Reading
+pub mod Holds
+pub mod Follows
 pub mod Laws
 -- what only the contracts of private functions cite, and lemmas
 pub mod Above

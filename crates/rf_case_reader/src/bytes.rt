@@ -68,8 +68,13 @@ pub fn push_repeated(
 ) -> Result<()> {
     let mut item = Vec::new(alloc);
     push_text(&mut item, text)?;
+    let has_number = item.contains(&b'#') || item.contains(&b'@');
     for number in numbers {
-        push_item(alloc, bytes, item.as_slice(), *number)?;
+        if has_number {
+            push_item(alloc, bytes, item.as_slice(), *number)?;
+        } else {
+            bytes.extend_from_slice(item.as_slice())?;
+        }
     }
     Ok(())
 }

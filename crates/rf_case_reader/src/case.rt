@@ -22,7 +22,7 @@ pub struct Setting {
 
 /// One part of a setting.
 #[derive(Clone, Copy, Debug)]
-pub enum Part {
+pub(crate) enum Part {
     Step,
     FailingRead,
     FailingOut,
@@ -33,7 +33,7 @@ pub enum Part {
 
 impl Setting {
     /// Nothing fails, and everything fits.
-    pub fn smooth() -> Setting {
+    pub(crate) fn smooth() -> Setting {
         Setting {
             step: 1000,
             failing_read: None,
@@ -45,7 +45,7 @@ impl Setting {
     }
 
     /// The same but for one part.
-    pub fn with(self, part: Part, number: u64) -> Setting {
+    pub(crate) fn with(self, part: Part, number: u64) -> Setting {
         let mut setting = self;
         match part {
             Part::Step => setting.step = number,
@@ -91,7 +91,7 @@ pub struct Case {
 
 impl Case {
     /// `check p g` over two empty files.
-    pub fn new(alloc: Global, title: &str) -> Result<Case, AllocError> {
+    pub(crate) fn new(alloc: Global, title: &str) -> Result<Case, AllocError> {
         let mut words = Vec::new(alloc);
         for word in ["check", "p", "g"] {
             words.push(Text::from_str(alloc, word)?)?;
@@ -116,7 +116,7 @@ impl Case {
     }
 
     /// The bytes of the file of this name, made where there is none.
-    pub fn file(&mut self, alloc: Global, name: &str) -> Result<&mut Vec<u8>, AllocError> {
+    pub(crate) fn file(&mut self, alloc: Global, name: &str) -> Result<&mut Vec<u8>, AllocError> {
         let place = match self.files.iter().position(|file| file.0.as_str() == name) {
             Some(place) => place,
             None => {
@@ -129,7 +129,12 @@ impl Case {
     }
 
     /// Runs each setting once for each number, which stands in this part of it.
-    pub fn vary(&mut self, alloc: Global, part: Part, numbers: &[u64]) -> Result<(), AllocError> {
+    pub(crate) fn vary(
+        &mut self,
+        alloc: Global,
+        part: Part,
+        numbers: &[u64],
+    ) -> Result<(), AllocError> {
         let mut settings = Vec::new(alloc);
         for setting in self.settings.iter() {
             for number in numbers {

@@ -31,7 +31,7 @@ pub fn read_cases(alloc: Global, text: &str) -> Result<Vec<Case>> {
     Ok(reader.cases)
 }
 
-// Reads a line behind lines that are shared or not, and says whether the next one is.
+// Reads a line after lines that are shared or not, and says whether the next one is.
 fn read_line<'t>(
     alloc: Global,
     reader: &mut Reader<'t>,
