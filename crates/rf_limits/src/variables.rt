@@ -64,8 +64,8 @@ fn past_known<'a>(
 pub fn variables_past(
     alloc: Global,
     limit: usize,
-    arguments: &Arguments<'_>,
-    clause: &ClauseDeclaration<'_>,
+    arguments: &Arguments,
+    clause: &ClauseDeclaration,
 ) -> Result<Option<u64>, AllocError>
     ensures { IfOk result (λ at. at
         ≡ least_of (first_past limit (λ name. name) (clause_variables arguments.now.names.now.declared.now

@@ -1,6 +1,6 @@
 -- The literals of a clause, one more at a time.
 use Rattle.std.proofs.Common.{◌≡◌, ◌<◌, ◌≤◌, ◌+◌, ℕ, suc, List, [], ◌∷◌, ◌++◌, length, map, take, drop, get_or, append_assoc, arith, refl, sym, ap, ◌∙◌}
-use Rattle.std.proofs.lemmas.List.{append-nil, length-take-le, take-append-drop, take_more}
+use Rattle.std.proofs.lemmas.List.{append-nil, length-take-le, map-append, take-append-drop, take_more}
 use Rattle.std.proofs.lemmas.List.Concat.{flat_map-append}
 use Rattle.rf_problem.specs.declared.predicate.Literal.{Literal}
 use Rattle.rf_syntax.specs.declared.name.Name.{Name}
@@ -61,10 +61,6 @@ module _ (d : Declared) (params : List Param) where
       ap (with_variables known) (flat_map-append (literal_names d params) ls ms)
       ∙ with_variables-append known (clause_names d params ls) (clause_names d params ms) in
       rw all more
-
-  map-append : {X Y : Type 0} (f : X → Y) (xs ys : List X) → map f (xs ++ ys) ≡ map f xs ++ map f ys
-  map-append f [] ys = refl
-  map-append f (x ∷ xs) ys = ap (λ zs. f x ∷ zs) (map-append f xs ys)
 
   pub clause_names_few :
       {X : Type 0} (f : X → BodyLiteral) (known : List Name) (xs : List X) (i : ℕ) (x : X) (limit : ℕ) → i < length xs →

@@ -1,4 +1,5 @@
 pub mod AssertionsFit
+pub mod AtomFacts
 pub mod BodyLemmas
 pub mod CallsFit
 pub mod ClassesFit
@@ -13,6 +14,7 @@ pub mod Made
 pub mod NegationLemmas
 pub mod NumberFacts
 pub mod ObjectsFit
+pub mod ObjectsThere
 pub mod PairFacts
 pub mod PartsFit
 pub mod Passing

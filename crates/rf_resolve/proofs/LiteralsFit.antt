@@ -1,14 +1,14 @@
 -- The literals of a clause fit, but for where its variables range.
 use Rattle.std.proofs.Common.{◌≡◌, ◌∙◌, ℕ, suc, ◌+◌, ◌≤◌, ◌<◌, Bool, true, not, ◌&&◌, ◌||◌, List, [], ◌∷◌, ◌++◌, length, All, Option, None, Some, refl, sym, ap, subst, inl, inr, arith, true≢false}
 use Rattle.std.specs.Prelude.{◌==◌, nat_lt}
-use Rattle.std.specs.List.{list_all, list_any}
+use Rattle.std.specs.List.{list_all}
 use Rattle.std.specs.Option.{is_none}
 use Rattle.std.proofs.lemmas.Bool.{and_from, and_parts, cases_Bool, eq-eqb, eqb-true, lt-ltb, or_cases, or_left, or_right}
 use Rattle.std.proofs.lemmas.List.{length-append, length-map}
 use Rattle.std.proofs.lemmas.List.Elements.{All-head, All-tail}
 use Rattle.std.proofs.lemmas.List.Folds.{list_all-append}
-use Rattle.rf_problem.specs.Parts.{arity_of, object_at}
-use Rattle.rf_problem.specs.Valid.{has_steps, is_atom, is_declared}
+use Rattle.rf_problem.specs.Parts.{arity_of}
+use Rattle.rf_problem.specs.Valid.{has_steps, is_declared}
 use Rattle.rf_problem.specs.declared.object.ObjectDecl.{ObjectDecl}
 use Rattle.rf_problem.specs.declared.predicate.Literal.{Literal}
 use Rattle.rf_problem.specs.declared.predicate.Literal.TheVariants.{Call as Calls, Same as IsSame, Differ as Differs}
@@ -23,25 +23,17 @@ use Rattle.rf_syntax.specs.declared.predicate.BodyLiteral.TheVariants.{Call, Sam
 use Rattle.rf_syntax.specs.declared.predicate.Param.{Param}
 use Rattle.rf_names.specs.Bodies.{clause_names, literal_names, term_of, terms_of, variable_number, with_argument, with_variable, with_variables}
 use Rattle.rf_names.specs.Declarations.{Declared, is_among, is_atom_argument, param_names}
-use Rattle.rf_names.specs.LookUp.{can_be_closed, class_named, literal_symbols, object_named, parameters_of, sense_of, the_number, the_symbol}
+use Rattle.rf_names.specs.LookUp.{can_be_closed, class_named, literal_symbols, parameters_of, sense_of, the_number, the_symbol}
 use Rattle.rf_names.specs.Texts.{is_blank, reads}
 use Rattle.rf_name_rules.specs.RuleOffsets.{ambiguous_literal, literal_arity, unknown_literal, unknown_param_class}
 use Rattle.rf_resolve.specs.Arguments.{with_arguments}
 use Rattle.rf_resolve.specs.Resolved.{class_literal, class_literals, resolved_literal, resolved_literals}
 use Rattle.rf_resolve.proofs.CallsFit.{predicate_at-made, predicates_made}
 use Rattle.rf_resolve.proofs.ClearOffsets.{offset_if-nil}
+use Rattle.rf_resolve.proofs.ObjectsThere.{AreAtomsThere, is_atom_object}
 use Rattle.rf_resolve.proofs.SenseLemmas.{IsCallOf, IsCallOf-from_nil, is_there}
 use Rattle.rf_resolve.proofs.TermLemmas.{length-terms_of, one_is_few, two_arguments, with_arguments-longer, with_arguments-step}
 use Rattle.rf_names.proofs.VariableLemmas.{position-some, variable_number-below, with_variables-append, with_variables-longer}
-
--- an object is there and may be named in bodies
-abbrev pub is_atom_object : List ObjectDecl → ℕ → Bool
-is_atom_object objects o = nat_lt o (length objects) && is_atom (object_at objects o).kind
-
--- each name of an atom stands for such an object
-abbrev pub AreAtomsThere : Declared → List ObjectDecl → Type 0
-AreAtomsThere d objects =
-    (text : List ℕ) → list_any (reads text) d.atoms ≡ true → is_atom_object objects (the_number (object_named d text)) ≡ true
 
 module _ (d : Declared) (objects : List ObjectDecl) where
   -- whether a term is a variable below m, or an atom

@@ -1,6 +1,7 @@
 //! The predicates of the problem.
 
 ghost use Rattle.std.specs.Prelude.{◌≡◌, ◌≤◌, ◌++◌, All, IfOk, OnOk, length, map};
+ghost use Rattle.rf_bounds.specs.declared.TheConstants.{MOST_PARAMETERS, MOST_VARIABLES};
 ghost use Rattle.rf_names.specs.Bodies.{clause_names, literal_names, with_variables};
 ghost use Rattle.rf_resolve.specs.Passes.{Passes};
 ghost use Rattle.rf_resolve.specs.Resolved.{class_literal, class_literals, resolved_clause, resolved_literal, resolved_literals, resolved_predicate};
@@ -19,12 +20,12 @@ use std::alloc::{AllocError, Global};
 
 fn literal_of<'a>(
     alloc: Global,
-    arguments: &Arguments<'_>,
+    arguments: &Arguments,
     known: &mut Variables<'a>,
     literal: &'a BodyLiteral,
 ) -> Result<Literal, AllocError>
     requires { length (with_variables known.old (literal_names arguments.now.names.now.declared.now
-        arguments.now.params.now literal.now)) ≤ 8 }
+        arguments.now.params.now literal.now)) ≤ MOST_VARIABLES }
     ensures literal { IfOk result (λ l. l ≡ resolved_literal arguments.now.names.now.declared.now
         arguments.now.params.now known.old literal.now) }
     ensures known { OnOk result (known.new ≡ with_variables known.old (literal_names
@@ -60,12 +61,12 @@ fn literal_of<'a>(
 // The literals as they are written.
 fn written<'a>(
     alloc: Global,
-    arguments: &Arguments<'_>,
+    arguments: &Arguments,
     known: &mut Variables<'a>,
     literals: &[&'a BodyLiteral],
 ) -> Result<Vec<Literal>, AllocError>
     requires { length (with_variables known.old (clause_names arguments.now.names.now.declared.now
-        arguments.now.params.now (map (λ l. l.now) literals.now))) ≤ 8 }
+        arguments.now.params.now (map (λ l. l.now) literals.now))) ≤ MOST_VARIABLES }
     ensures literals { IfOk result (λ v. v.items
         ≡ resolved_literals arguments.now.names.now.declared.now arguments.now.params.now known.old
         (map (λ l. l.now) literals.now)) }
@@ -113,7 +114,7 @@ fn push_class_literals(
     literals: &mut Vec<Literal>,
     params: &[Param],
 ) -> Result<(), AllocError>
-    requires { length params.now ≤ 4 }
+    requires { length params.now ≤ MOST_PARAMETERS }
     ensures { OnOk result (literals.new.items ≡ literals.old.items
         ++ class_literals names.now.declared.now 0 params.now) }
 {
@@ -126,8 +127,8 @@ fn push_class_literals(
 #[tactic(auto, using(crate::proofs::SmallLemmas::few_literals))]
 fn clause_of(
     alloc: Global,
-    arguments: &Arguments<'_>,
-    clause: &ClauseDeclaration<'_>,
+    arguments: &Arguments,
+    clause: &ClauseDeclaration,
 ) -> Result<Clause, AllocError>
     requires { IsSmallClause arguments.now.names.now.declared.now arguments.now.params.now clause.now }
     ensures { IfOk result (λ c. c ≡ resolved_clause arguments.now.names.now.declared.now
@@ -147,8 +148,8 @@ fn clause_of(
 
 fn clauses_of(
     alloc: Global,
-    arguments: &Arguments<'_>,
-    clauses: &[ClauseDeclaration<'_>],
+    arguments: &Arguments,
+    clauses: &[ClauseDeclaration],
 ) -> Result<Vec<Clause>, AllocError>
     requires { All (IsSmallClause arguments.now.names.now.declared.now arguments.now.params.now) clauses.now }
     ensures { IfOk result (λ v. v.items
@@ -163,8 +164,8 @@ fn clauses_of(
 
 fn predicate_of(
     alloc: Global,
-    names: &Names<'_>,
-    predicate: &PredicateDeclaration<'_>,
+    names: &Names,
+    predicate: &PredicateDeclaration,
 ) -> Result<Predicate, AllocError>
     requires { IsSmallPredicate names.now.declared.now predicate.now }
     ensures { IfOk result (λ p. p ≡ resolved_predicate names.now.declared.now predicate.now) }

@@ -1,6 +1,7 @@
 //! The terms that arguments of literals stand for.
 
 ghost use Rattle.std.specs.Prelude.{◌≡◌, ◌≤◌, ◌∷◌, [], IfOk, OnOk, length};
+ghost use Rattle.rf_bounds.specs.declared.TheConstants.{MOST_VARIABLES};
 ghost use Rattle.rf_names.specs.Bodies.{term_of, terms_of, with_argument};
 ghost use Rattle.rf_resolve.specs.Arguments.{with_arguments};
 
@@ -13,12 +14,12 @@ use std::alloc::{AllocError, Global};
 
 /// The term that an argument stands for. If that is a variable, it is known from then on.
 pub fn term_of<'a>(
-    arguments: &Arguments<'_>,
+    arguments: &Arguments,
     known: &mut Variables<'a>,
     name: &'a Name,
 ) -> Result<Term, AllocError>
     requires { length (with_argument arguments.now.names.now.declared.now arguments.now.params.now
-        known.old name.now) ≤ 8 }
+        known.old name.now) ≤ MOST_VARIABLES }
     ensures term { IfOk result (λ t. t ≡ term_of arguments.now.names.now.declared.now
         arguments.now.params.now known.old name.now) }
     ensures known { OnOk result (known.new ≡ with_argument arguments.now.names.now.declared.now
@@ -35,12 +36,12 @@ pub fn term_of<'a>(
 #[tactic(auto, using(crate::proofs::TermLemmas::term_steps))]
 pub fn terms_of<'a>(
     alloc: Global,
-    arguments: &Arguments<'_>,
+    arguments: &Arguments,
     known: &mut Variables<'a>,
     names: &'a [Name],
 ) -> Result<Vec<Term>, AllocError>
     requires { length (with_arguments arguments.now.names.now.declared.now arguments.now.params.now
-        known.old names.now) ≤ 8 }
+        known.old names.now) ≤ MOST_VARIABLES }
     ensures terms { IfOk result (λ v. v.items ≡ terms_of arguments.now.names.now.declared.now
         arguments.now.params.now known.old names.now) }
     ensures known { OnOk result (known.new ≡ with_arguments arguments.now.names.now.declared.now
@@ -57,13 +58,13 @@ pub fn terms_of<'a>(
 /// The terms at both sides of a comparison.
 #[tactic(auto, using(crate::proofs::TermLemmas::side_steps))]
 pub fn sides<'a>(
-    arguments: &Arguments<'_>,
+    arguments: &Arguments,
     known: &mut Variables<'a>,
     a: &'a Name,
     b: &'a Name,
 ) -> Result<(Term, Term), AllocError>
     requires { length (with_arguments arguments.now.names.now.declared.now arguments.now.params.now
-        known.old (a.now ∷ b.now ∷ [])) ≤ 8 }
+        known.old (a.now ∷ b.now ∷ [])) ≤ MOST_VARIABLES }
     ensures left { IfOk result (λ sides. sides.0 ≡ term_of arguments.now.names.now.declared.now
         arguments.now.params.now known.old a.now) }
     ensures right { IfOk result (λ sides. sides.1 ≡ term_of arguments.now.names.now.declared.now

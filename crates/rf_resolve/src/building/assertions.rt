@@ -6,9 +6,9 @@ ghost use Rattle.rf_names.specs.LookUp.{class_named, new_object_of, the_number, 
 ghost use Rattle.rf_resolve.specs.Resolved.{object_or_new, resolved_arg, resolved_assertion};
 
 use crate::building::objects::object_number;
-use rf_names::{AssertDeclaration, Names, Sense, reads};
+use rf_names::{AssertDeclaration, Names, Sense, object_name};
 use rf_problem::{Assertion, Symbol};
-use rf_syntax::{Arg, Name};
+use rf_syntax::{Arg, SymbolName};
 use rf_text::Items;
 use std::alloc::{AllocError, Global};
 
@@ -33,14 +33,14 @@ fn new_object_number(names: &Names, class: &str) -> u64
     }
 }
 
-// The object that an argument stands for: the member, if it has one other than `new`, else the name.
-fn object_or_new(names: &Names, name: &Name, member: &Option<Name>) -> u64
-    ensures { result ≡ object_or_new names.now.declared.now (object_name name.now member.now) name.now }
+// The object that an argument stands for: the named one, else the new object of its class.
+fn object_or_new(names: &Names, symbol: &SymbolName) -> u64
+    ensures { result ≡ object_or_new names.now.declared.now
+        (object_name symbol.now.name symbol.now.member) symbol.now.name }
 {
-    match member {
-        None => object_number(names, name),
-        Some(member) if reads("new", member) => new_object_number(names, name.text.as_str()),
-        Some(member) => object_number(names, member),
+    match object_name(symbol) {
+        Some(name) => object_number(names, name),
+        None => new_object_number(names, symbol.name.text.as_str()),
     }
 }
 
@@ -49,7 +49,7 @@ fn resolved_arg(names: &Names, arg: &Arg) -> Option<u64>
 {
     match arg {
         Arg::Star => None,
-        Arg::Symbol(s) => Some(object_or_new(names, &s.name, &s.member)),
+        Arg::Symbol(symbol) => Some(object_or_new(names, symbol)),
     }
 }
 

@@ -1,5 +1,5 @@
 use Rattle.std.proofs.Common.{◌∙◌, ◌++◌, map, ap}
-use Rattle.rf_problem.specs.Valid.{concrete_numbers, new_object}
+use Rattle.rf_problem.specs.Valid.{new_numbers, new_object}
 use Rattle.rf_names.specs.LookUp.{named_objects}
 use Rattle.rf_resolve.specs.Resolved.{resolved_object}
 use Rattle.rf_resolve.proofs.Made.{classes_made_few, sources_small}
@@ -26,5 +26,5 @@ unreachable-requires c =
     _ c.in_ok-classes.ensures _ c.in_ok-references.ensures _ c.in_ok-predicates.ensures _
     (c.in_ok-objects.ensures
     ∙ ap (λ cs. map (resolved_object c.args.names.now.declared.now) (named_objects c.args.names.now.declared.now)
-    ++ map new_object (concrete_numbers 0 cs)) c.deref.ensures.value)
+    ++ map new_object (new_numbers 0 cs)) c.deref.ensures.value)
     _ c.in_ok-assertions.ensures _ c.in_ok-scopes.ensures)
