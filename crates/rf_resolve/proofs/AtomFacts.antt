@@ -22,7 +22,7 @@ use Rattle.rf_names.specs.Texts.{is_text_of, reads}
 use Rattle.rf_name_rules.specs.RuleOffsets.{reserved_names}
 use Rattle.rf_resolve.specs.Passes.{Passes}
 use Rattle.rf_resolve.specs.Resolved.{kind_by_atom, kind_by_enum, kind_of_object}
-use Rattle.rf_resolve.proofs.EntryLemmas.{counted}
+use Rattle.rf_resolve.proofs.EntryLemmas.{counted, counted_none, counted_one}
 use Rattle.rf_resolve.proofs.FreshNames.{AreFresh, AreFresh-from_repeated, AreFresh-none}
 use Rattle.rf_resolve.proofs.KnownVariables.{any-some}
 use Rattle.rf_resolve.proofs.RuleParts.{once}
@@ -108,7 +108,7 @@ module _ (text : List ℕ) where
   literals_of_enums (Assert is_default assertion ∷ ss) = literals_of_enums ss
 
   -- how many names of a list read so
-  many : List Name → ℕ
+  abbrev many : List Name → ℕ
   many ns = count_by (reads text) ns
 
   many-append : (ms ns : List Name) → many (ms ++ ns) ≡ many ms + many ns
@@ -117,16 +117,12 @@ module _ (text : List ℕ) where
   many-some : (ns : List Name) → list_any (reads text) ns ≡ true → 1 ≤ many ns
   many-some [] h = absurd (true≢false (sym h))
   many-some (n ∷ ns) h =
-      let whole = counted (reads text) n ns in
       elim (or_cases (reads text n) (list_any (reads text) ns) h) [
-        | inl here ↦ (let one : cond (reads text n) 1 0 ≡ 1 = rw here refl in omega arith)
-        | inr later ↦ (let more = many-some ns later in omega arith)
+        | inl here ↦ (let one = counted_one (reads text) n ns here in omega arith)
+        | inr later ↦ (let whole = counted (reads text) n ns in let more = many-some ns later in omega arith)
       ]
 
   -- an atom and an item of `multi` are two of the names that are declared
-  names_of_items : List Item → List Name
-  names_of_items items = map (λ i. i.name) items
-
   many_declared : (ss : List Statement) →
       many (flat_map atoms_in ss) + many (map (λ i. i.name) (flat_map items_in ss)) ≤ many (flat_map names_in ss)
   many_declared [] = omega arith
@@ -165,21 +161,19 @@ module _ (text : List ℕ) where
       let other : reads text n ≡ false = false_from_ne_true (reads text n) (λ same. both_ways (is_text_of seen n) fresh.0
       (subst (λ t. list_any (bytes_eq t) seen ≡ true) (sym ((bytes_eq-Decides n.text text).0 same)) h)) in
       let rest = none_read (n.text ∷ seen) ns fresh.1 (or_right (bytes_eq text n.text) (list_any (bytes_eq text) seen) h) in
-      let whole = counted (reads text) n ns in
-      let zero_here : cond (reads text n) 1 0 ≡ 0 = rw other refl in
+      let same = counted_none (reads text) n ns other in
       omega arith
 
   one_reads : (seen : List (List ℕ)) (ns : List Name) → AreFresh seen ns → many ns ≤ 1
   one_reads seen [] fresh = omega arith
   one_reads seen (n ∷ ns) fresh =
-      let whole = counted (reads text) n ns in
       elim (cases_Bool (reads text n)) [
         | inl here ↦ (let rest = none_read (n.text ∷ seen) ns fresh.1
             (or_left (bytes_eq text n.text) (list_any (bytes_eq text) seen)
             ((bytes_eq-Decides text n.text).1 (sym ((bytes_eq-Decides n.text text).0 here)))) in
-            let one : cond (reads text n) 1 0 ≡ 1 = rw here refl in omega arith)
+            let one = counted_one (reads text) n ns here in omega arith)
         | inr other ↦ (let rest = one_reads (n.text ∷ seen) ns fresh.1 in
-            let none : cond (reads text n) 1 0 ≡ 0 = rw other refl in omega arith)
+            let none = counted_none (reads text) n ns other in omega arith)
       ]
 
 -- the item of a name is one of the list

@@ -1,5 +1,5 @@
 -- What a text that breaks no rule gives to those who make its problem.
-use Rattle.std.proofs.Common.{◌≡◌, ◌∙◌, ◌≤◌, ◌<◌, ◌^◌, ◌⊎◌, ◌++◌, All, List, map, length, Result, Ok, Err, IfOk, IfErr, Some, None, refl, sym, ap, subst, inl, inr, arith}
+use Rattle.std.proofs.Common.{◌≡◌, ◌∙◌, ◌≤◌, ◌<◌, ◌^◌, ◌⊎◌, ◌++◌, All, List, map, length, Option, Result, Ok, Err, IfNone, IfOk, IfErr, Some, None, refl, sym, ap, subst, inl, inr, arith}
 use Rattle.std.proofs.lemmas.List.Elements.{All-weaker}
 use Rattle.rf_bounds.specs.declared.TheConstants.{MOST_CLASSES}
 use Rattle.rf_problem.specs.Valid.{new_numbers, new_object}
@@ -48,6 +48,11 @@ sources_small ast d is readable sound =
     All-weaker (λ r. r.source < length (map (resolved_class d) d.classes)) (λ r. r.source < 2 ^ 32)
     (λ r below. omega arith) d.references
     (All-unmap (λ r. r.source < length (map (resolved_class d) d.classes)) (resolved_reference d) d.references fit.sources)
+
+-- lists that are the parts of a problem aren't refused
+pub refused_never : (made : Option Problem) (Fit : Type 0) → made ≡ None → IfNone made (Fit → ⊥) → Fit → ⊥
+refused_never None Fit none refused fit = refused fit
+refused_never (Some p) Fit none refused fit = let never : ⊥ = cc in never
 
 -- the declarations stand for one problem at most
 pub one_problem : (d : Declared) (p q : Problem) → IsResolved d p → IsResolved d q → p ≡ q

@@ -1,5 +1,5 @@
 -- The objects that names and classes stand for are there.
-use Rattle.std.proofs.Common.{◌≡◌, ◌∙◌, ℕ, zero, suc, ◌+◌, ◌≤◌, ◌<◌, Bool, true, false, ◌&&◌, not, List, [], ◌∷◌, ◌++◌, map, length, take, get_or, cond, count_by, All, Option, Some, None, refl, sym, ap, subst, inl, inr, arith}
+use Rattle.std.proofs.Common.{◌≡◌, ◌∙◌, ℕ, zero, suc, ◌+◌, ◌≤◌, ◌<◌, Bool, true, false, ◌&&◌, not, List, [], ◌∷◌, ◌++◌, map, length, take, get_or, count_by, All, Option, Some, None, refl, sym, ap, subst, inl, inr, arith}
 use Rattle.std.specs.Prelude.{nat_lt, position}
 use Rattle.std.specs.List.{list_any, position_or_len}
 use Rattle.std.specs.Str.{bytes_eq}
@@ -19,7 +19,7 @@ use Rattle.rf_names.specs.Texts.{is_text_of, reads}
 use Rattle.rf_names.proofs.VariableLemmas.{position-there, position_or_len-within}
 use Rattle.rf_resolve.specs.Resolved.{kind_of_object, resolved_class, resolved_object}
 use Rattle.rf_resolve.proofs.AtomFacts.{atom_mentioned, kind_of_atom}
-use Rattle.rf_resolve.proofs.EntryLemmas.{counted}
+use Rattle.rf_resolve.proofs.EntryLemmas.{counted, counted_none, counted_one}
 
 -- the objects of the problem
 abbrev pub objects_made : Declared → List ObjectDecl
@@ -77,12 +77,10 @@ module _ (d : Declared) where
   new_count n (c ∷ cs) = elim (cases_Bool (has_new c)) [
     | inl e ↦ (let here : length (new_numbers n (map (resolved_class d) (c ∷ cs)))
         ≡ suc (length (new_numbers (suc n) (map (resolved_class d) cs))) = rw e refl in
-        let one : cond (has_new c) 1 0 ≡ 1 = rw e refl in
-        let rest = new_count (suc n) cs in let step = counted has_new c cs in omega arith)
+        let rest = new_count (suc n) cs in let step = counted_one has_new c cs e in omega arith)
     | inr e ↦ (let here : length (new_numbers n (map (resolved_class d) (c ∷ cs)))
         ≡ length (new_numbers (suc n) (map (resolved_class d) cs)) = rw e refl in
-        let none : cond (has_new c) 1 0 ≡ 0 = rw e refl in
-        let rest = new_count (suc n) cs in let step = counted has_new c cs in omega arith)
+        let rest = new_count (suc n) cs in let step = counted_none has_new c cs e in omega arith)
   ]
 
   objects_long : length (objects_made d) ≡ length (named_objects d) + count_by has_new d.classes
@@ -96,8 +94,7 @@ module _ (d : Declared) where
       count_by has_new (take k cs) < count_by has_new cs
   fewer_before [] k e l is = absurd (omega arith)
   fewer_before (c ∷ cs) zero e l is =
-      let step = counted has_new c cs in
-      let one : cond (has_new c) 1 0 ≡ 1 = rw is refl in
+      let step = counted_one has_new c cs is in
       let none : count_by has_new (take 0 (c ∷ cs)) ≡ 0 = refl in
       omega arith
   fewer_before (c ∷ cs) (suc k) e l is =
