@@ -1,9 +1,9 @@
 -- The atoms of a text: its enums' literals among them, each a named object, and none an item of `multi`.
-use Rattle.std.proofs.Common.{◌≡◌, ◌≢◌, ◌∙◌, ℕ, zero, suc, ◌+◌, ◌≤◌, ◌<◌, Bool, true, false, ◌&&◌, ◌||◌, List, [], ◌∷◌, ◌++◌, map, length, get_or, cond, count_by, All, Option, None, Some, refl, sym, ap, subst, inl, inr, arith, true≢false}
-use Rattle.std.specs.Prelude.{nat_lt, find, position}
+use Rattle.std.proofs.Common.{◌≡◌, ◌∙◌, ℕ, ◌+◌, ◌≤◌, ◌<◌, Bool, true, false, ◌||◌, List, [], ◌∷◌, ◌++◌, map, length, get_or, cond, count_by, All, Option, None, Some, refl, sym, ap, subst, inl, inr, arith, true≢false}
+use Rattle.std.specs.Prelude.{find}
 use Rattle.std.specs.List.{flat_map, list_any}
 use Rattle.std.specs.Str.{bytes_eq}
-use Rattle.std.proofs.lemmas.Bool.{and_from, both_ways, cases_Bool, false_from_ne_true, lt-ltb, or_cases, or_left, or_right}
+use Rattle.std.proofs.lemmas.Bool.{both_ways, cases_Bool, false_from_ne_true, or_cases, or_left, or_right}
 use Rattle.std.proofs.lemmas.List.{map-append}
 use Rattle.std.proofs.lemmas.List.Elements.{All-cons, All-nil}
 use Rattle.std.proofs.lemmas.List.Folds.{list_any-append}
@@ -16,14 +16,14 @@ use Rattle.rf_syntax.specs.declared.statement.Ast.{Ast}
 use Rattle.rf_syntax.specs.declared.statement.Item.{Item}
 use Rattle.rf_syntax.specs.declared.statement.Statement.{Statement}
 use Rattle.rf_syntax.specs.declared.statement.Statement.TheVariants.{Assert, Atoms, Class as ClassOf, Declare, Enum, Multi, Predicate as PredicateOf, Scope}
-use Rattle.rf_names.specs.Declarations.{ClassDecl, Declared, atoms_in, classes_in, declared_in, items_in, items_of, items_or_none, listed_or_none, mentions_in, names_in}
+use Rattle.rf_names.specs.Declarations.{Declared, atoms_in, classes_in, declared_in, items_in, items_of, items_or_none, listed_or_none, mentions_in, names_in}
 use Rattle.rf_names.specs.LookUp.{enum_of, has_literal, item_named, no_class_decl}
 use Rattle.rf_names.specs.Texts.{is_text_of, reads}
 use Rattle.rf_name_rules.specs.RuleOffsets.{reserved_names}
 use Rattle.rf_resolve.specs.Passes.{Passes}
 use Rattle.rf_resolve.specs.Resolved.{kind_by_atom, kind_by_enum, kind_of_object}
 use Rattle.rf_resolve.proofs.EntryLemmas.{counted, counted_none, counted_one}
-use Rattle.rf_resolve.proofs.FreshNames.{AreFresh, AreFresh-from_repeated, AreFresh-none}
+use Rattle.rf_resolve.proofs.FreshNames.{AreFresh, AreFresh-from_repeated}
 use Rattle.rf_resolve.proofs.KnownVariables.{any-some}
 use Rattle.rf_resolve.proofs.RuleParts.{once}
 
@@ -213,6 +213,7 @@ module _ (ast : Ast) where
       by_atom : (b : Bool) → is_atom (kind_by_atom b) ≡ true → b ≡ true
       by_atom true e = refl
       by_atom false e = absurd (true≢false (sym e))
+
       atom : (o : Option ℕ) → enum_of own text ≡ o → is_atom (kind_by_enum o (list_any (reads text) own.atoms)) ≡ true →
           list_any (reads text) own.atoms ≡ true
       atom None is e = by_atom (list_any (reads text) own.atoms) e

@@ -39,9 +39,11 @@ class_names_fresh :
     AreFresh seen (map class_name (flat_map classes_in ss))
 class_names_fresh seen [] fresh = fresh
 class_names_fresh seen (ClassOf is_abstract name supers body ∷ ss) fresh = (fresh.0, class_names_fresh (name.text ∷ seen) ss fresh.1)
-class_names_fresh seen (Enum name literals ∷ ss) fresh =
-    (fresh.0, class_names_fresh (name.text ∷ seen) ss
-    (AreFresh-behind (name.text ∷ seen) (listed_or_none literals) (flat_map names_in ss) fresh.1))
+class_names_fresh seen (Enum name literals ∷ ss) fresh = (
+  fresh.0,
+  class_names_fresh (name.text ∷ seen) ss
+      (AreFresh-behind (name.text ∷ seen) (listed_or_none literals) (flat_map names_in ss) fresh.1),
+)
 class_names_fresh seen (PredicateOf start name params clauses ∷ ss) fresh =
     class_names_fresh seen ss (AreFresh-behind seen (names_in (PredicateOf start name params clauses)) (flat_map names_in ss) fresh)
 class_names_fresh seen (Declare names ∷ ss) fresh =

@@ -1,5 +1,5 @@
 -- What a text that breaks no rule gives to those who make its problem.
-use Rattle.std.proofs.Common.{◌≡◌, ◌∙◌, ◌≤◌, ◌<◌, ◌^◌, ◌⊎◌, ◌++◌, All, List, map, length, Option, Result, Ok, Err, IfNone, IfOk, IfErr, Some, None, refl, sym, ap, subst, inl, inr, arith}
+use Rattle.std.proofs.Common.{◌≡◌, ◌∙◌, ◌≤◌, ◌<◌, ◌^◌, ◌++◌, All, List, map, length, Option, Result, Ok, Err, IfNone, IfOk, IfErr, Some, None, refl, sym, ap, subst, inl, inr, arith}
 use Rattle.std.proofs.lemmas.List.Elements.{All-weaker}
 use Rattle.rf_bounds.specs.declared.TheConstants.{MOST_CLASSES}
 use Rattle.rf_problem.specs.Valid.{new_numbers, new_object}

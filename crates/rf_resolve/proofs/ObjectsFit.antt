@@ -133,6 +133,7 @@ module _ (ast : Ast) where
       by_atom : (b : Bool) → fits_kind classes_made (Named name) (kind_by_atom b) ≡ true
       by_atom true = refl
       by_atom false = refl
+
       fit : (o : Option ℕ) → enum_of d name ≡ o →
           fits_kind classes_made (Named name) (kind_by_enum o (list_any (reads name) d.atoms)) ≡ true
       fit None is = by_atom (list_any (reads name) d.atoms)

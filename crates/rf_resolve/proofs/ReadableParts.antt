@@ -4,7 +4,7 @@ use Rattle.std.specs.Prelude.{option_to_list}
 use Rattle.std.specs.List.{flat_map}
 use Rattle.std.specs.Option.{ForSome}
 use Rattle.std.proofs.lemmas.Bool.{cases_Bool}
-use Rattle.std.proofs.lemmas.List.Elements.{All-append, All-cons, All-head, All-map, All-nil, All-tail, All-weaker}
+use Rattle.std.proofs.lemmas.List.Elements.{All-append, All-cons, All-filter, All-head, All-map, All-nil, All-tail, All-weaker}
 use Rattle.rf_lexer.specs.declared.token.Kind.{Kind}
 use Rattle.rf_bounds.specs.declared.TheConstants.{GREATEST_NUMBER}
 use Rattle.rf_syntax.specs.Assertion.{arg_pieces, assertion_pieces, atom_pieces, value_pieces}
@@ -282,17 +282,9 @@ read_literal (Call negated symbol closure args) all =
 read_literal (Same a b) all = read_sides equal_equal a b all
 read_literal (Differ a b) all = read_sides bang_equal a b all
 
--- what holds of all holds of those that pass
-All-filter : {X : Type 0} (P : X → Type 0) (p : X → Bool) (xs : List X) → All P xs → All P (filter p xs)
-All-filter P p [] all = all
-All-filter P p (x ∷ xs) all = elim (cases_Bool (p x)) [
-  | inl e ↦ rw e (All-cons P x (filter p xs) (All-head P x xs all) (All-filter P p xs (All-tail P x xs all)))
-  | inr e ↦ rw e (All-filter P p xs (All-tail P x xs all))
-]
-
 read_clause : (atoms : List Name) (params : List Param) (clause : NonEmpty BodyLiteral) → AreRead (clause_pieces clause) →
     All IsReadName (atoms_in_clause atoms params (items_of clause))
-read_clause atoms params clause all = All-filter IsReadName (is_atom_argument atoms params) (flat_map argument_names (items_of clause))
+read_clause atoms params clause all = All-filter (is_atom_argument atoms params) IsReadName (flat_map argument_names (items_of clause))
     (All-flatten IsReadName argument_names (items_of clause)
     (All-weaker (λ l. AreRead (literal_pieces l)) (λ l. All IsReadName (argument_names l)) read_literal (items_of clause)
     (read_separated literal_pieces comma clause all)))

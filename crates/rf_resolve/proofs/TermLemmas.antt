@@ -4,7 +4,6 @@ use Rattle.std.proofs.lemmas.Bool.{cases_Bool}
 use Rattle.std.proofs.lemmas.Grind.{common_steps}
 use Rattle.std.proofs.lemmas.List.{take-append-drop, take_more}
 use Rattle.std.proofs.lemmas.List.Elements.{filter-append}
-use Rattle.rf_problem.specs.declared.predicate.Term.{Term}
 use Rattle.rf_syntax.specs.declared.name.Name.{Name}
 use Rattle.rf_syntax.specs.declared.predicate.Param.{Param}
 use Rattle.rf_names.specs.Bodies.{term_of, terms_of, with_argument, with_variable, with_variables}
@@ -111,12 +110,3 @@ one_is_few d params known a b limit few =
     omega arith
 
 pub ruleset side_steps = (common_steps, two_arguments, one_is_few)
-
--- an atom is no variable, and another argument is one
-pub of_atom : (d : Declared) (params : List Param) (known : List Name) (n : Name) → is_atom_argument d.atoms params n ≡ true →
-    with_argument d params known n ≡ known
-of_atom d params known n e = rw e refl
-
-pub of_variable : (d : Declared) (params : List Param) (known : List Name) (n : Name) → is_atom_argument d.atoms params n ≡ false →
-    with_argument d params known n ≡ with_variable known n
-of_variable d params known n e = rw e refl
