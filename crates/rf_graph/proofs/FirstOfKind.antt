@@ -24,7 +24,7 @@ use Rattle.rf_problem.specs.declared.symbol.Symbol.{Symbol}
 use Rattle.rf_problem.specs.declared.symbol.Symbol.TheVariants.{Class as OfClass, Reference, Predicate, Exists, Equals}
 use Rattle.rf_problem.proofs.Below.{IsBelow-from_is_below, is_below-from_IsBelow}
 use Rattle.rf_graph.specs.Evaluate.{holds}
-use Rattle.rf_graph.specs.First.{breaks, first_asserted, first_broken, first_class, first_containers, first_cycle, first_degree, first_edge, first_edge_of, first_object, first_opposite, first_scope, fits_ends, has_mirror, has_stranger, is_in_range, is_native, is_wrongly_contained, may_have_class, when}
+use Rattle.rf_graph.specs.First.{breaks, first_asserted, first_broken, first_class, first_containers, first_cycle, first_degree, first_edge, first_edge_of, first_object, first_opposite, first_scope, fits_ends, has_mirror, has_stranger, is_in_range, may_come_from, is_wrongly_contained, may_have_class, when}
 use Rattle.rf_graph.specs.Graph.{Fits, FitsEdge, HasEdge, class_of, has_edge, origin_of, size_of}
 use Rattle.rf_graph.specs.Holds.{Holds}
 use Rattle.rf_graph.specs.Violations.{Breaks, HasStranger, IsBroken, IsWronglyContained, IsMisplaced, IsOfAbstractClass, IsOffScope, IsOnCycle, IsOneWay, IsOutOfRange, IsUnsatisfied, MayHaveClass, container_count, degree_of, contains_in, is_counted, nodes_from, sort_key}
@@ -216,24 +216,24 @@ module _ (p : Problem) (g : Graph) where
 
   -- whether node x is a stranger to object o
   abbrev is_stranger : ℕ → ℕ → Bool
-  is_stranger o x = origin_of g x == o && not (is_native p g o x)
+  is_stranger o x = origin_of g x == o && not (may_come_from p g o x)
 
   HasStranger-from_test : (o : ℕ) → has_stranger p g o ≡ true → HasStranger p g o
   HasStranger-from_test o h =
       let one = one-from_some_below (size_of g) (is_stranger o) h in
-      let parts = and_parts (origin_of g one.0 == o) (not (is_native p g o one.0)) one.2 in
+      let parts = and_parts (origin_of g one.0 == o) (not (may_come_from p g o one.0)) one.2 in
       record {
         x = one.0;
         node = one.1;
         origin = eqb-true (origin_of g one.0) o parts.0;
-        other = λ may. both_ways (is_native p g o one.0) (not-true (is_native p g o one.0) parts.1)
+        other = λ may. both_ways (may_come_from p g o one.0) (not-true (may_come_from p g o one.0) parts.1)
             (test-from_MayHaveClass (object_at p.objects o).name (object_at p.objects o).kind (class_of g one.0) may);
       }
 
   test-from_HasStranger : (o : ℕ) → HasStranger p g o → has_stranger p g o ≡ true
   test-from_HasStranger o s = some_below-from_one (size_of g) (is_stranger o) s.x s.node
-      (and_from (origin_of g s.x == o) (not (is_native p g o s.x)) (eq-eqb (origin_of g s.x) o s.origin)
-      (not_from_false (is_native p g o s.x) (false_from_ne_true (is_native p g o s.x) (λ may.
+      (and_from (origin_of g s.x == o) (not (may_come_from p g o s.x)) (eq-eqb (origin_of g s.x) o s.origin)
+      (not_from_false (may_come_from p g o s.x) (false_from_ne_true (may_come_from p g o s.x) (λ may.
       s.other (MayHaveClass-from_test (object_at p.objects o).name (object_at p.objects o).kind (class_of g s.x) may)))))
 
   abbrev is_unsatisfied : ℕ → Bool

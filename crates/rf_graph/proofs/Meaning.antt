@@ -17,7 +17,7 @@ use Rattle.rf_graph.proofs.Edges.{HasEdge-from_has_edge, has_edge-from_HasEdge}
 
 module _ (p : Problem) (g : Graph) where
   -- the computed reading of a graph says what its words say
-  graph_agrees : (says : Meaning) → Agree (graph_reading p g) (graph_words p g says)
+  pub graph_agrees : (says : Meaning) → Agree (graph_reading p g) (graph_words p g says)
   graph_agrees says = record {
     present = λ x l e. l;
     within = λ x l. l;

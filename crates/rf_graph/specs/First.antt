@@ -85,11 +85,11 @@ may_have_class classes (Named name) Plain c = not (class_at classes c).is_enum
 may_have_class classes (Named name) Atom c = not (class_at classes c).is_enum
 
 -- whether node x may come from object o by its class
-abbrev pub is_native : Problem → Graph → ℕ → ℕ → Bool
-is_native p g o x = may_have_class p.classes (object_at p.objects o).name (object_at p.objects o).kind (class_of g x)
+abbrev pub may_come_from : Problem → Graph → ℕ → ℕ → Bool
+may_come_from p g o x = may_have_class p.classes (object_at p.objects o).name (object_at p.objects o).kind (class_of g x)
 
 abbrev pub has_stranger : Problem → Graph → ℕ → Bool
-has_stranger p g o = some_below (size_of g) (λ x. origin_of g x == o && not (is_native p g o x))
+has_stranger p g o = some_below (size_of g) (λ x. origin_of g x == o && not (may_come_from p g o x))
 
 abbrev pub first_object : Problem → Graph → Option Violation
 first_object p g = first_below (length p.objects) (λ o.

@@ -1,3 +1,4 @@
+pub mod AtomLemmas
 pub mod FirstLemmas
 pub mod FoundLemmas
 pub mod Gathered

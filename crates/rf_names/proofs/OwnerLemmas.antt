@@ -1,14 +1,16 @@
 -- The class of the first literal of a text is the first that has such a literal.
 use Rattle.std.proofs.Common.{◌≡◌, ◌∙◌, ℕ, suc, ◌+◌, ◌<◌, ◌≤◌, Bool, true, false, List, [], ◌∷◌, ◌++◌, length, take, get_or, map, Option, None, Some, refl, sym, ap, arith, inl, inr, append_assoc, length-append}
-use Rattle.std.specs.Prelude.{nat_lt}
+use Rattle.std.specs.Prelude.{nat_lt, option_map, slice_get, unwrap_or}
+use Rattle.std.proofs.lemmas.Option.{slice_get-map, unwrap_or-slice_get}
 use Rattle.std.specs.List.{flat_map, list_any, position, position_or_len}
+use Rattle.std.proofs.lemmas.Grind.{get_or_default_zero}
 use Rattle.std.proofs.lemmas.Bool.{cases_Bool, lt-ltb, ltb-true}
 use Rattle.std.proofs.lemmas.List.{append-nil, get_or-append-add, get_or-map, get_or_append_left, length-map, length-take, take_more}
 use Rattle.std.proofs.lemmas.List.Quantifiers.{position-Some}
 use Rattle.rf_syntax.specs.declared.name.Name.{Name}
 use Rattle.rf_names.specs.Declarations.{ClassDecl, Declared}
-use Rattle.rf_names.specs.LookUp.{enum_of, has_literal, no_name}
-use Rattle.rf_names.specs.Tables.{owners_from}
+use Rattle.rf_names.specs.LookUp.{enum_of, has_literal, is_literal_of, no_class_decl, no_name}
+use Rattle.rf_names.specs.Tables.{owners_from, passes_at, some_passes}
 use Rattle.rf_names.specs.Texts.{reads}
 use Rattle.rf_names.proofs.NamedLemmas.{position_missing, position_there}
 use Rattle.rf_names.proofs.VariableLemmas.{position_or_len-within}
@@ -30,7 +32,6 @@ position_or_len-later p (x ∷ xs) ys none = elim (cases_Bool (p x)) [
       let rest = position_or_len-later p xs ys later in
       rw fails (omega arith))
 ]
-
 
 owner_at :
     (text : List ℕ) (n : ℕ) (cs : List ClassDecl) → position_or_len (reads text) (flat_map (λ c. c.literals) cs) < length (flat_map (λ c. c.literals) cs) →
@@ -88,22 +89,6 @@ enum_missing d names text found are finds is =
       | inr out ↦ rw out refl
     ]
 
--- the owner of the literal found
-pub enum_found :
-    (d : Declared) (names : List Name) (owners : List ℕ) (text : List ℕ) (found : Option ℕ) (k owner : ℕ) → names ≡ flat_map (λ c. c.literals) d.classes →
-    owners ≡ owners_from 0 d.classes → found ≡ position (reads text) names → found ≡ Some k → owner ≡ get_or owners k 0 → Some owner ≡ enum_of d text
-enum_found d names owners text found k owner are own finds is reading =
-    let all = flat_map (λ c. c.literals) d.classes in
-    let there : position (reads text) all ≡ Some k = sym (ap (position (reads text)) are) ∙ sym finds ∙ is in
-    let place : position_or_len (reads text) all ≡ k = position_there (reads text) all k there in
-    let within = (position-Some (reads text) all k no_name there).0 in
-    let first = owner_at text 0 d.classes (omega arith) in
-    let test : nat_lt (position_or_len (has_literal text) d.classes) (length d.classes) ≡ true = lt-ltb (position_or_len (has_literal text) d.classes) (length d.classes) first.0 in
-    let e : 0 + position_or_len (has_literal text) d.classes ≡ position_or_len (has_literal text) d.classes = omega arith in
-    let read : owner ≡ position_or_len (has_literal text) d.classes =
-    reading ∙ ap (λ xs. get_or xs k 0) own ∙ ap (λ (i : ℕ). get_or (owners_from 0 d.classes) i 0) (sym place) ∙ first.1 ∙ e in
-    rw test (ap (λ n. Some n) read)
-
 length-owners : (n : ℕ) (cs : List ClassDecl) → length (owners_from n cs) ≡ length (flat_map (λ c. c.literals) cs)
 length-owners n [] = refl
 length-owners n (c ∷ cs) =
@@ -123,6 +108,22 @@ owner_there d names owners text found k are own finds is =
     let within = (position-Some (reads text) all k no_name there).0 in
     omega (arith, within, ap length own, length-owners 0 d.classes)
 
+-- the owner of the literal found
+pub enum_found :
+    (d : Declared) (names : List Name) (owners : List ℕ) (text : List ℕ) (found : Option ℕ) (k owner : ℕ) → names ≡ flat_map (λ c. c.literals) d.classes →
+    owners ≡ owners_from 0 d.classes → found ≡ position (reads text) names → found ≡ Some k → owner ≡ get_or owners k owner → Some owner ≡ enum_of d text
+enum_found d names owners text found k owner are own finds is reading =
+    let all = flat_map (λ c. c.literals) d.classes in
+    let there : position (reads text) all ≡ Some k = sym (ap (position (reads text)) are) ∙ sym finds ∙ is in
+    let place : position_or_len (reads text) all ≡ k = position_there (reads text) all k there in
+    let within = (position-Some (reads text) all k no_name there).0 in
+    let first = owner_at text 0 d.classes (omega arith) in
+    let test : nat_lt (position_or_len (has_literal text) d.classes) (length d.classes) ≡ true = lt-ltb (position_or_len (has_literal text) d.classes) (length d.classes) first.0 in
+    let e : 0 + position_or_len (has_literal text) d.classes ≡ position_or_len (has_literal text) d.classes = omega arith in
+    let read : owner ≡ position_or_len (has_literal text) d.classes =
+    reading ∙ get_or_default_zero owners k owner (owner_there d names owners text found k are own finds is) ∙ ap (λ xs. get_or xs k 0) own ∙ ap (λ (i : ℕ). get_or (owners_from 0 d.classes) i 0) (sym place) ∙ first.1 ∙ e in
+    rw test (ap (λ n. Some n) read)
+
 owners_snoc : (n m : ℕ) (cs : List ClassDecl) (c : ClassDecl) → m ≡ n + length cs → owners_from n (cs ++ c ∷ []) ≡ owners_from n cs ++ map (λ l. m) c.literals
 owners_snoc n m [] c is = let e : m ≡ n = omega arith in rw e (append-nil (map (λ l. n) c.literals))
 owners_snoc n m (x ∷ cs) c is =
@@ -137,3 +138,23 @@ owners_more cs i c below is =
     ap (owners_from 0) (take_more cs i c below)
     ∙ owners_snoc 0 i (take i cs) (get_or cs i c) e
     ∙ ap (λ (x : ClassDecl). owners_from 0 (take i cs) ++ map (λ l. i) x.literals) (sym is)
+
+passes_seen : {S T : Type 0} (p : T → Bool) (f : S → T) (o : Option S) → some_passes (λ x. p (f x)) o ≡ some_passes p (option_map f o)
+passes_seen p f None = refl
+passes_seen p f (Some x) = refl
+
+passes_there : {T : Type 0} (p : T → Bool) (d : T) (o : Option T) → p d ≡ false → some_passes p o ≡ p (unwrap_or o d)
+passes_there p d None none = sym none
+passes_there p d (Some x) none = refl
+
+-- the names of each list are the literals of the class of its number
+pub literal_passes :
+    {S : Type 0} (d : Declared) (names : S → List Name) (lists : List S) (c : ℕ) (text : List ℕ) → map names lists ≡ map (λ x. x.literals) d.classes →
+    passes_at (λ own. list_any (reads text) (names own)) lists c ≡ is_literal_of d (Some c) text
+literal_passes d names lists c text are =
+    let literals : ClassDecl → List Name = λ x. x.literals in
+    passes_seen (list_any (reads text)) names (slice_get lists c)
+    ∙ ap (some_passes (list_any (reads text))) (sym (slice_get-map names lists c) ∙ ap (λ xs. slice_get xs c) are ∙ slice_get-map literals d.classes c)
+    ∙ sym (passes_seen (list_any (reads text)) literals (slice_get d.classes c))
+    ∙ passes_there (has_literal text) no_class_decl (slice_get d.classes c) refl
+    ∙ ap (has_literal text) (unwrap_or-slice_get d.classes c no_class_decl)

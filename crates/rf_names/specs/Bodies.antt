@@ -1,5 +1,5 @@
 -- The variables of clauses, and what clauses call.
-use Rattle.std.specs.Prelude.{List, map, [], ◌∷◌, Bool, false, ◌&&◌, not, ◌++◌, if◌then◌else◌, ℕ, ◌||◌, nat_lt, count_by, filter, Option, None, Some, true, length, ◌==◌, position}
+use Rattle.std.specs.Prelude.{List, [], ◌∷◌, Bool, false, ◌&&◌, not, ◌++◌, if◌then◌else◌, ℕ, ◌||◌, nat_lt, count_by, filter, Option, None, Some, true, length, ◌==◌, position}
 use Rattle.std.specs.List.{flat_map, list_any, list_all}
 use Rattle.rf_syntax.specs.declared.name.Name.{Name}
 use Rattle.rf_syntax.specs.declared.predicate.Param.{Param}

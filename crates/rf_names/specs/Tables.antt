@@ -1,5 +1,5 @@
 -- For private functions and fields: tables in which names and their numbers are found without a scan.
-use Rattle.std.specs.Prelude.{ℕ, List, Option, ◌≡◌, position, [], None, Some, option_to_list, not, take, count_by, ◌<◌, length, slice_index_or, Bool, false, slice_get, map, ◌∷◌, ◌++◌, suc}
+use Rattle.std.specs.Prelude.{ℕ, List, Option, ◌≡◌, position, [], None, Some, option_to_list, take, count_by, ◌<◌, length, slice_index_or, Bool, false, slice_get, map, ◌∷◌, ◌++◌, suc}
 use Rattle.std.specs.BTreeMap.{BTreeMap, get_by}
 use Rattle.std.specs.HashMap.{HashMap, get_by as hash_get_by}
 use Rattle.std.specs.Str.{bytes_eq}

@@ -1,7 +1,7 @@
 //! What the arguments of bodies stand for: atoms, or variables.
 
 ghost use Rattle.std.specs.Prelude.{◌≡◌, IfOk, map};
-ghost use Rattle.rf_names.specs.Declarations.{is_atom_argument, param_names};
+ghost use Rattle.rf_names.specs.Declarations.{is_among, is_atom_argument, param_names};
 ghost use Rattle.rf_names.specs.Gathering.{is_atom_among};
 
 use crate::bodies::{is_blank, names_of_params};
@@ -11,10 +11,7 @@ use rf_syntax::{Name, Param};
 use std::alloc::{AllocError, Global};
 
 /// The parameters of a predicate, by their texts.
-pub fn numbered_params<'a>(
-    alloc: Global,
-    params: &'a [Param],
-) -> Result<Numbering<'a>, AllocError>
+pub fn numbered_params<'a>(alloc: Global, params: &'a [Param]) -> Result<Numbering<'a>, AllocError>
     ensures { IfOk result (λ known. map (λ n. n.now) known.names.items ≡ param_names params.now) }
 {
     let names = names_of_params(alloc, params)?;
@@ -59,6 +56,13 @@ impl<'n, 'a, 'p> Arguments<'n, 'a, 'p> {
             params,
             known,
         })
+    }
+
+    /// Whether a parameter has this name.
+    pub fn is_param(&self, name: &Name) -> bool
+        ensures { result ≡ is_among (param_names self.now.params.now) name.now }
+    {
+        self.known.contains(name.text.as_str())
     }
 
     /// Whether an argument stands for an atom.

@@ -1,9 +1,10 @@
 //! The enums by their literals.
 
 ghost use Rattle.std.specs.Prelude.{◌≡◌, ◌<◌, ◌^◌, ◌++◌, IfOk, OnOk, map, length};
-ghost use Rattle.std.specs.List.{flat_map};
+ghost use Rattle.std.specs.List.{flat_map, list_any};
 ghost use Rattle.rf_names.specs.LookUp.{enum_of, is_literal_of};
-ghost use Rattle.rf_names.specs.Tables.{owners_from};
+ghost use Rattle.rf_names.specs.Tables.{owners_from, passes_at};
+ghost use Rattle.rf_names.specs.Texts.{reads};
 
 use crate::declarations::Declarations;
 use crate::gather::push_all;
@@ -45,11 +46,16 @@ fn literals_of<'a>(
 }
 
 // The number of a class, once for each of its literals.
-fn push_owner(owners: &mut Vec<u32>, class: u32, literals: &[Name]) -> Result<(), AllocError>
-    ensures { OnOk result (owners.new.items ≡ owners.old.items ++ map (λ n. class) literals.now) }
+fn push_owner(
+    owners: &mut Vec<u32>,
+    number: u32,
+    class: &ClassDeclaration,
+) -> Result<(), AllocError>
+    ensures { OnOk result (owners.new.items ≡ owners.old.items
+        ++ map (λ l. number) class.now.literals) }
 {
-    for _literal in literals {
-        owners.push(class)?;
+    for _literal in class.literals {
+        owners.push(number)?;
     }
     Ok(())
 }
@@ -61,7 +67,7 @@ fn owners_of(alloc: Global, classes: &[ClassDeclaration]) -> Result<Vec<u32>, Al
 {
     let mut owners = Vec::new(alloc);
     for (number, class) in classes.iter().enumerate() {
-        push_owner(&mut owners, number as u32, class.literals)?;
+        push_owner(&mut owners, number as u32, class)?;
     }
     Ok(owners)
 }
@@ -87,6 +93,17 @@ fn literals_by_class<'a>(
         lists.push(numbered(alloc, class.literals)?)?;
     }
     Ok(lists)
+}
+
+// Whether one of the names of this list reads so.
+fn is_listed(lists: &[Numbering], list: u32, text: &str) -> bool
+    ensures { result ≡ passes_at
+        (λ own. list_any (reads text.now) (map (λ n. n.now) own.names.items)) lists.now list }
+{
+    match lists.get(list as usize) {
+        Some(own) => own.contains(text),
+        None => false,
+    }
 }
 
 impl<'a> EnumTables<'a> {
@@ -120,11 +137,8 @@ impl<'a> EnumTables<'a> {
     pub fn has_literal(&self, class: Option<u32>, text: &str) -> bool
         ensures { result ≡ is_literal_of self.now.declared.now class text.now }
     {
-        let Some(class) = class else {
-            return false;
-        };
-        match self.by_class.get(class as usize) {
-            Some(own) => own.contains(text),
+        match class {
+            Some(class) => is_listed(self.by_class.as_slice(), class, text),
             None => false,
         }
     }

@@ -108,7 +108,27 @@ fn push_clause_atoms<'a>(
     push_atoms_among(out, atoms, params, names.as_slice())
 }
 
+fn push_clauses_atoms<'a>(
+    alloc: Global,
+    out: &mut Vec<&'a Name>,
+    atoms: &Numbering,
+    params: &Numbering,
+    clauses: &'a [NonEmpty<BodyLiteral>],
+) -> Result<(), AllocError>
+    ensures { OnOk result (map (λ n. n.now) out.new.items ≡ map (λ n. n.now) out.old.items
+        ++ flat_map (λ clause. atoms_among
+        (map (λ n. n.now) atoms.now.names.items)
+        (map (λ n. n.now) params.now.names.items)
+        (items_of clause)) clauses.now) }
+{
+    for clause in clauses {
+        push_clause_atoms(alloc, out, atoms, params, clause)?;
+    }
+    Ok(())
+}
+
 // Appends the atoms that the clauses of a predicate name.
+#[tactic(auto, using(crate::proofs::AtomLemmas::body_atoms))]
 fn push_body_atoms<'a>(
     alloc: Global,
     out: &mut Vec<&'a Name>,
@@ -123,10 +143,7 @@ fn push_body_atoms<'a>(
 {
     let known = numbered_params(alloc, params)?;
     push_clause_atoms(alloc, out, atoms, &known, &clauses.first)?;
-    for clause in clauses.rest.as_slice() {
-        push_clause_atoms(alloc, out, atoms, &known, clause)?;
-    }
-    Ok(())
+    push_clauses_atoms(alloc, out, atoms, &known, clauses.rest.as_slice())
 }
 
 /// Appends the names at which a statement of a text with these atoms speaks of named objects.
@@ -143,7 +160,9 @@ pub fn push_mentions<'a>(
         Statement::Class { .. } | Statement::Scope(_) => Ok(()),
         Statement::Enum { literals, .. } => push_listed(out, literals),
         Statement::Predicate {
-            params, clauses, ..
+            params,
+            clauses,
+            ..
         } => push_body_atoms(alloc, out, atoms, params.as_slice(), clauses),
         Statement::Declare(names) | Statement::Atoms(names) => push_list(out, names),
         Statement::Multi(items) => push_names_of_items(out, items),

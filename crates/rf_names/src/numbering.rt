@@ -103,6 +103,7 @@ impl<'a> Numbering<'a> {
     }
 
     /// Whether a name reads so.
+    #[tactic(auto, using(crate::proofs::FirstLemmas::some_position))]
     pub fn contains(&self, text: &str) -> bool
         ensures { result ≡ list_any (reads text.now) (map (λ n. n.now) self.now.names.items) }
     {

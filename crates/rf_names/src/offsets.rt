@@ -102,8 +102,7 @@ struct OfClause<'r, 's, 'n, 'd, 'p, R> {
 }
 
 impl<'r, 's, 'n, 'd, 'p, 'a, R: ClauseRule> OffsetRule<ClauseDeclaration<'a>>
-    for OfClause<'r, 's, 'n, 'd, 'p, R>
-{
+    for OfClause<'r, 's, 'n, 'd, 'p, R> {
     ghost offsets = { λ of.
         R.clause_offsets of.rule.now of.arguments.now.names.now.declared.now of.arguments.now.params.now };
 
@@ -137,8 +136,7 @@ struct OfPredicate<'r, 'n, 'd, R> {
 }
 
 impl<'r, 'n, 'd, 'a, R: ClauseRule> OffsetRule<PredicateDeclaration<'a>>
-    for OfPredicate<'r, 'n, 'd, R>
-{
+    for OfPredicate<'r, 'n, 'd, R> {
     ghost offsets = { λ of p.
         flat_map (R.clause_offsets of.rule.now of.names.now.declared.now p.params) p.clauses };
 
@@ -162,7 +160,11 @@ pub fn least_in_clauses<R: ClauseRule>(
         (λ n. R.clause_offsets rule.now names.now.declared.now) 0 names.now.declared.now.predicates)) }
 {
     let declared = names.declared;
-    least_among(alloc, &OfPredicate { rule, names }, declared.predicates.as_slice())
+    least_among(
+        alloc,
+        &OfPredicate { rule, names },
+        declared.predicates.as_slice(),
+    )
 }
 
 // A rule of literals, asked of clauses.

@@ -1,6 +1,6 @@
 pub mod AboveLemmas
 pub mod ApartLemmas
-pub mod AssertedLemmas
+pub mod ArityLemmas
 pub mod BelowLemmas
 pub mod Below
 pub mod CallLemmas
@@ -8,7 +8,10 @@ pub mod Choices
 pub mod CycleLemmas
 pub mod Depth
 pub mod Following
+pub mod HeardLemmas
+pub mod KeyLemmas
 pub mod StockLemmas
+pub mod TableLemmas
 pub mod ProblemLemmas
 pub mod Agreements
 pub mod ChosenAtoms

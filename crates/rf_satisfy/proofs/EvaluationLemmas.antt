@@ -14,6 +14,7 @@ use Rattle.rf_problem.specs.Valid.{FitsClause, fit_literals, is_declared, is_fre
 use Rattle.rf_problem.specs.declared.predicate.Literal.{Literal}
 use Rattle.rf_problem.specs.declared.predicate.Literal.TheVariants.{Call}
 use Rattle.rf_problem.specs.declared.predicate.Predicate.{Predicate}
+use Rattle.rf_problem.specs.declared.predicate.Term.{Term}
 use Rattle.rf_problem.specs.declared.problem.Problem.{Problem}
 use Rattle.rf_problem.specs.declared.symbol.Symbol.{Symbol}
 use Rattle.rf_problem.specs.declared.symbol.Symbol.TheVariants.{Class, Reference, Predicate as Defined, Exists, Equals}
@@ -37,15 +38,6 @@ AreNodes-assign cells assignment n v x e l h k = subst (λ (y : ℕ). y < max 1 
   | inl q ↦ rw q (omega arith)
   | inr q ↦ rw q (h k)
 ])
-
--- cells that hold the assignment of arguments are nodes where those are
-pub AreNodes-arguments : (cells assignment args : List ℕ) (n : ℕ) → slice_index cells ≡ slice_index (map (slice_index assignment) args) → AreNodes n assignment → AreNodes n cells
-AreNodes-arguments cells assignment args n e h k = subst (λ (y : ℕ). y < max 1 n) (sym (ap (λ (f : Assignment). f k) e)) (each args k)
-  where
-    each : (args : List ℕ) (k : ℕ) → get_or (map (slice_index assignment) args) k 0 < max 1 n
-    each [] k = omega arith
-    each (a ∷ rest) zero = h a
-    each (a ∷ rest) (suc k) = each rest k
 
 -- cells that hold a tuple of nodes are nodes
 pub AreNodes-tuple : (cells t : List ℕ) (n : ℕ) → slice_index cells ≡ slice_index t → All (λ x. x < n) t → AreNodes n cells
@@ -90,10 +82,10 @@ atom_at-same p g depth true s t u e =
 
 -- literal i of those that fit is well formed, and those after it fit
 pub IsSound-at : (p : Problem) (variables : List (Option ℕ)) (i : ℕ) (ls : List Literal) (l : Literal) → i < length ls
-    → fit_literals (length p.classes) (length p.references) p.predicates variables i (drop i ls) ≡ true → l ≡ get_or ls i l
-    → IsSound p variables i l × (fit_literals (length p.classes) (length p.references) p.predicates variables (i + 1) (drop (i + 1) ls) ≡ true)
+    → fit_literals (length p.classes) (length p.references) p.objects p.predicates variables i (drop i ls) ≡ true → l ≡ get_or ls i l
+    → IsSound p variables i l × (fit_literals (length p.classes) (length p.references) p.objects p.predicates variables (i + 1) (drop (i + 1) ls) ≡ true)
 IsSound-at p variables i ls l lt h e =
-    let parts = and_parts _ (fit_literals (length p.classes) (length p.references) p.predicates variables (suc i) (drop (suc i) ls)) (rw (drop-cons ls i l) at h) in
+    let parts = and_parts _ (fit_literals (length p.classes) (length p.references) p.objects p.predicates variables (suc i) (drop (suc i) ls)) (rw (drop-cons ls i l) at h) in
     (subst (λ (m : Literal). IsSound p variables i m) (sym e) parts.0, rw add-one parts.1)
 
 -- symbols have few arguments
@@ -108,7 +100,7 @@ arity_of-few p Exists = omega arith
 arity_of-few p Equals = omega arith
 
 -- the symbol that a well-formed literal calls is declared, and has few arguments
-pub declared-from_IsSound : (p : Problem) (variables : List (Option ℕ)) (i : ℕ) (negated closure : Bool) (s : Symbol) (args : List ℕ)
+pub declared-from_IsSound : (p : Problem) (variables : List (Option ℕ)) (i : ℕ) (negated closure : Bool) (s : Symbol) (args : List Term)
     → IsSound p variables i (Call negated closure s args)
     → (is_declared (length p.classes) (length p.references) (length p.predicates) s ≡ true) × (length args ≤ 8)
 declared-from_IsSound p variables i negated closure s args h =
@@ -121,7 +113,7 @@ declared-from_IsSound p variables i negated closure s args h =
 -- the clauses of a problem are well formed
 pub IsSoundClause-from_problem : (p : Problem) (q : ℕ) → q < length p.predicates → All (IsSoundClause p) (predicate_at p.predicates q).clauses
 IsSoundClause-from_problem p q l k d lk =
-    let all : All (FitsClause (length p.classes) (length p.references) p.predicates (predicate_at p.predicates q).arity) (predicate_at p.predicates q).clauses =
+    let all : All (FitsClause (length p.classes) (length p.references) p.objects p.predicates (predicate_at p.predicates q).arity) (predicate_at p.predicates q).clauses =
     p.predicates_fit.clauses q no_predicate l in
     let fits = all k d lk in
     record { few_variables = fits.few_variables; literals = fits.literals }

@@ -1,3 +1,4 @@
+pub mod ChosenNodes
 pub mod Keys
 pub mod Counts
 pub mod PeelingLemmas
@@ -7,6 +8,7 @@ pub mod ContainerLemmas
 pub mod ObjectCounts
 pub mod AssignmentLemmas
 pub mod EvaluationLemmas
+pub mod TermLemmas
 pub mod TupleLemmas
 pub mod NodeListLemmas
 pub mod SuspectLemmas

@@ -1,5 +1,5 @@
 -- A clause with a literal that fails wherever a variable is none of the nodes listed.
-use Rattle.std.proofs.Common.{◌≡◌, ℕ, zero, suc, ◌<◌, Bool, true, false, eqb, Option, None, Some, List, [], ◌∷◌, length, get_or, refl, sym, ap, ◌∙◌, subst, inl, inr, arith}
+use Rattle.std.proofs.Common.{◌≡◌, ℕ, zero, suc, ◌<◌, Bool, true, false, eqb, Option, None, Some, List, [], ◌∷◌, length, get_or, refl, sym, ap, ◌∙◌, subst, inl, inr, arith, true≢false}
 use Rattle.std.specs.List.{list_any}
 use Rattle.std.specs.Prelude.{All, IfSome, slice_index}
 use denote.Ref.{Bor}
@@ -8,18 +8,23 @@ use Rattle.std.proofs.lemmas.List.Folds.{Any-from_list_any}
 use Rattle.rf_finite.proofs.Lists.{list_any-more_pass}
 use Rattle.rf_finite.proofs.Range.{some_below-from_one, some_below-none}
 use Rattle.rf_finite.specs.Range.{some_below}
-use Rattle.rf_problem.specs.Reading.{assign}
+use Rattle.rf_problem.specs.Reading.{Assignment, assign, element_of}
 use Rattle.rf_problem.specs.Valid.{is_free}
 use Rattle.rf_problem.specs.declared.predicate.Clause.{Clause}
 use Rattle.rf_problem.specs.declared.predicate.Literal.{Literal}
+use Rattle.rf_problem.specs.declared.predicate.Literal.TheVariants.{Call}
+use Rattle.rf_problem.specs.declared.predicate.Term.{Term}
+use Rattle.rf_problem.specs.declared.predicate.Term.TheVariants.{Var, Atom}
+use Rattle.rf_problem.specs.declared.symbol.Symbol.TheVariants.{Reference}
 use Rattle.rf_problem.specs.declared.problem.Problem.{Problem}
 use Rattle.rf_graph.specs.Evaluate.{graph_reading}
-use Rattle.rf_graph.specs.Graph.{size_of}
+use Rattle.rf_graph.specs.Graph.{has_edge, size_of}
 use Rattle.rf_graph.specs.declared.graph.Graph.{Graph}
 use Rattle.rf_satisfy.specs.EdgeEnds.{is_listed}
 use Rattle.rf_satisfy.specs.Evaluation.{literal_at, literals_at, some_literals}
-use Rattle.rf_satisfy.specs.Pruning.{AgreeBelow, FailElsewhere, FailsElsewhere}
-use Rattle.rf_satisfy.proofs.PruningLemmas.{some_assignment-false}
+use Rattle.rf_satisfy.specs.Pruning.{AgreeBelow, FailElsewhere, FailsElsewhere, IsAnchor}
+use Rattle.rf_satisfy.specs.Terms.{is_variable}
+use Rattle.rf_satisfy.proofs.PruningLemmas.{StandsFor, fails-at_two, some_assignment-false}
 
 -- literals fail where one of them does
 pub FailElsewhere-from_one : (p : Problem) (g : Graph) (v : ℕ) (assignment nodes : List ℕ) (ls : List Literal) (j : ℕ) (l : Literal) → j < length ls → l ≡ get_or ls j l
@@ -71,3 +76,31 @@ pub some_below-listed : (p : Problem) (g : Graph) (depth : ℕ) (c : Clause) (en
 some_below-listed p g depth c entries v assignment nodes f there =
     some_below-among (size_of g) (λ x. some_literals p g depth c entries (suc v) (assign (slice_index assignment) v x)) nodes there
     (λ x off. elsewhere-false p g depth c entries v assignment nodes x f off)
+
+is_variable-same : (v : ℕ) (t : Term) → is_variable v t ≡ true → t ≡ Var v
+is_variable-same v (Var u) h = ap (λ k. Var k) (eqb-true u v h)
+is_variable-same v (Atom o) h = absurd (true≢false (sym h))
+
+-- a literal that asks for an edge between variable v and a term that stands for a known node fails wherever the variable is
+-- none of the nodes at the other ends of that one's edges
+module _ (p : Problem) (g : Graph) (r v : ℕ) (assignment nodes : List ℕ) (x : ℕ) where
+  variable-itself : (t : Term) (others : Assignment) → t ≡ Var v → StandsFor g others t (others v)
+  variable-itself t others e = λ choice chosen. ap (element_of others choice) e
+
+  pub FailsElsewhere-from : (args : List Term) (d : Term) → length args ≡ 2 → IsAnchor g v assignment (get_or args 0 d) x → is_variable v (get_or args 1 d) ≡ true
+      → ((y : ℕ) → is_listed nodes y ≡ has_edge g r x y) → FailsElsewhere p g v assignment nodes (Call false false (Reference r) args)
+  FailsElsewhere-from [] d e at_a is listed = absurd (omega arith)
+  FailsElsewhere-from (a ∷ []) d e at_a is listed = absurd (omega arith)
+  FailsElsewhere-from (a ∷ b ∷ []) d e at_a is listed = λ depth i variables others agree off.
+      fails-at_two p g others a b x (others v) (λ t. has_edge g r (slice_index t 0) (slice_index t 1)) (λ choice. at_a others choice agree)
+      (variable-itself b others (is_variable-same v b is)) (sym (listed (others v)) ∙ off)
+  FailsElsewhere-from (a ∷ b ∷ c ∷ args) d e at_a is listed = absurd (omega arith)
+
+  pub FailsElsewhere-into : (args : List Term) (d : Term) → length args ≡ 2 → is_variable v (get_or args 0 d) ≡ true → IsAnchor g v assignment (get_or args 1 d) x
+      → ((y : ℕ) → is_listed nodes y ≡ has_edge g r y x) → FailsElsewhere p g v assignment nodes (Call false false (Reference r) args)
+  FailsElsewhere-into [] d e is at_b listed = absurd (omega arith)
+  FailsElsewhere-into (a ∷ []) d e is at_b listed = absurd (omega arith)
+  FailsElsewhere-into (a ∷ b ∷ []) d e is at_b listed = λ depth i variables others agree off.
+      fails-at_two p g others a b (others v) x (λ t. has_edge g r (slice_index t 0) (slice_index t 1)) (variable-itself a others (is_variable-same v a is))
+      (λ choice. at_b others choice agree) (sym (listed (others v)) ∙ off)
+  FailsElsewhere-into (a ∷ b ∷ c ∷ args) d e is at_b listed = absurd (omega arith)

@@ -1,15 +1,14 @@
 -- How many nodes come from each object, and which objects have nodes of classes that they may not have.
 use Rattle.std.specs.Prelude.{◌≡◌, ◌<◌, ◌==◌, ◌&&◌, not, ℕ, Bool, false, List, length, slice_index, slice_index_or}
 use Rattle.rf_finite.specs.Range.{count_below, some_below}
-use Rattle.rf_problem.specs.Parts.{object_at}
 use Rattle.rf_problem.specs.declared.problem.Problem.{Problem}
-use Rattle.rf_graph.specs.First.{may_have_class}
-use Rattle.rf_graph.specs.Graph.{class_of, origin_of}
+use Rattle.rf_graph.specs.First.{may_come_from}
+use Rattle.rf_graph.specs.Graph.{origin_of}
 use Rattle.rf_graph.specs.declared.graph.Graph.{Graph}
 
 -- whether the class of node x is one that its object may have
 abbrev pub is_native : Problem → Graph → ℕ → Bool
-is_native p g x = may_have_class (object_at p.objects (origin_of g x)).name (class_of g x)
+is_native p g x = may_come_from p g (origin_of g x) x
 
 -- what was counted of each object among so many nodes
 pub record CountsNodes (p : Problem) (g : Graph) (nodes : ℕ) (counts : List ℕ) (strange : List Bool) : Type 0 where

@@ -1,20 +1,20 @@
 //! The first tuple of nodes at which what is asserted of a symbol isn't satisfied.
 //!
 //! A tuple is tried only where an assertion asks for it: at the nodes whose origins match its
-//! arguments, and of an error predicate at all nodes.
+//! arguments, of an error predicate at all nodes, and of an enum at the nodes of its literals.
 
 ghost use Rattle.std.specs.Prelude.{◌≡◌, ◌-◌, ◌<◌, ◌≤◌, ℕ, All, IfOk, IsTrue, not, true, false, length, map, take, [], ◌&&◌};
 ghost use Rattle.std.specs.List.{list_any};
-ghost use Rattle.std.specs.Option.{ForSome, is_some};
-ghost use Rattle.rf_values.specs.declared.truth.Truth.TheVariants.{False};
-ghost use Rattle.rf_problem.specs.Asserted.{asserted, is_error, match_each, matches};
-ghost use Rattle.rf_problem.specs.Parts.{arity_of, same_symbol};
+ghost use Rattle.std.specs.Option.{is_some};
+ghost use Rattle.rf_values.specs.declared.truth.Truth.TheVariants.{False, True};
+ghost use Rattle.rf_problem.specs.Asserted.{asserted, is_literal_of, match_each, matches};
+ghost use Rattle.rf_problem.specs.Parts.{arity_of, object_at, same_symbol};
 ghost use Rattle.rf_graph.specs.Evaluate.{holds};
 ghost use Rattle.rf_graph.specs.First.{breaks, first_asserted, first_broken};
 ghost use Rattle.rf_graph.specs.Graph.{origin_of, size_of};
 ghost use Rattle.rf_satisfy.specs.Evaluation.{declares};
 ghost use Rattle.rf_satisfy.specs.SymbolKinds.{count_of, first_of_kind, symbol_of};
-ghost use Rattle.rf_satisfy.specs.Suspects.{is_broken, is_error_at, is_suspect, is_suspect_by};
+ghost use Rattle.rf_satisfy.specs.Suspects.{is_broken, is_suspect, is_suspect_by, is_unwritten_at};
 ghost use Rattle.rf_satisfy.specs.Tuples.{ArePassing, IsFirst, first_passing};
 
 use crate::graph_index::GraphIndex;
@@ -22,7 +22,7 @@ use crate::suspect_edges::first_suspect_edge;
 use crate::suspects::first_from;
 use crate::tuples::earlier;
 use rf_graph::Violation;
-use rf_problem::{Assertion, Problem, Symbol};
+use rf_problem::{Assertion, ObjectKind, Problem, Symbol};
 use rf_values::{Truth, Tuple};
 use std::alloc::{AllocError, Global};
 
@@ -45,7 +45,6 @@ fn first_suspect(
     requires declared { IsTrue (declares index.now.problem symbol) }
     requires arity { length args.now ≡ arity_of index.now.problem.predicates symbol }
     requires few { length args.now ≤ 4 }
-    requires objects { All (λ arg. ForSome arg (λ o. o < length index.now.problem.objects)) args.now }
     ensures { IfOk result (λ t.
         IsFirst (size_of index.now.graph) (arity_of index.now.problem.predicates symbol)
         (is_suspect index.now.problem index.now.graph symbol args.now value) t) }
@@ -59,30 +58,77 @@ fn first_suspect(
     }
 }
 
-fn is_error(index: &GraphIndex<'_>, symbol: Symbol) -> bool
-    requires declared { IsTrue (declares index.now.problem symbol) }
-    ensures { result ≡ is_error index.now.problem.predicates symbol }
-{
-    match symbol {
-        Symbol::Predicate(q) => index.problem().predicate(q).is_error,
-        Symbol::Class(_) | Symbol::Reference(_) | Symbol::Exists | Symbol::Equals => false,
-    }
-}
-
-fn arity(index: &GraphIndex<'_>, symbol: Symbol) -> usize
-    requires declared { IsTrue (declares index.now.problem symbol) }
-    ensures value { result ≡ arity_of index.now.problem.predicates symbol }
+fn arity(index: &GraphIndex<'_>, predicate: u32) -> usize
+    requires declared { predicate < length index.now.problem.predicates }
+    ensures value { result ≡ arity_of index.now.problem.predicates (Symbol.Predicate predicate) }
     ensures few { result ≤ 4 }
 {
-    match symbol {
-        Symbol::Class(_) | Symbol::Exists => 1,
-        Symbol::Reference(_) | Symbol::Equals => 2,
-        Symbol::Predicate(q) => index.problem().predicate(q).arity as usize,
+    index.problem().predicate(predicate).arity as usize
+}
+
+/// The first tuple at which a predicate holds, where it is an error predicate, and what is asserted of
+/// it isn't satisfied.
+fn first_error(
+    alloc: Global,
+    index: &GraphIndex<'_>,
+    predicate: u32,
+) -> Result<Option<Tuple>, AllocError>
+    requires declared { predicate < length index.now.problem.predicates }
+    ensures { IfOk result (λ t.
+        IsFirst (size_of index.now.graph) (arity_of index.now.problem.predicates (Symbol.Predicate predicate))
+        (is_unwritten_at index.now.problem index.now.graph (Symbol.Predicate predicate)) t) }
+{
+    if !index.problem().predicate(predicate).is_error {
+        return Ok(None);
+    }
+    let any = [None; 4];
+    let args = &any[..arity(index, predicate)];
+    first_suspect(
+        alloc,
+        index,
+        Symbol::Predicate(predicate),
+        args,
+        Truth::False,
+    )
+}
+
+/// Whether an object is a literal of the enum of this number.
+fn is_literal_of(index: &GraphIndex<'_>, object: u64, class: u32) -> bool
+    requires { object < length index.now.problem.objects }
+    ensures { result ≡ is_literal_of (object_at index.now.problem.objects object).kind class }
+{
+    match index.problem().object(object).kind {
+        ObjectKind::LiteralOf(own) => own == class,
+        ObjectKind::Plain | ObjectKind::Atom => false,
     }
 }
 
-/// The first tuple at which an error predicate holds, and what is asserted of it isn't satisfied.
-fn first_error(
+/// The first node of a literal of the class, where that is an enum, that hasn't the class, and at which
+/// what is asserted of the class isn't satisfied.
+fn first_literal(
+    alloc: Global,
+    index: &GraphIndex<'_>,
+    class: u32,
+) -> Result<Option<Tuple>, AllocError>
+    requires declared { class < length index.now.problem.classes }
+    ensures { IfOk result (λ t.
+        IsFirst (size_of index.now.graph) 1
+        (is_unwritten_at index.now.problem index.now.graph (Symbol.Class class)) t) }
+{
+    let mut first = None;
+    for object in 0..index.problem().objects.len() as u64 {
+        if is_literal_of(index, object, class) {
+            let own = [Some(object)];
+            let other = first_suspect(alloc, index, Symbol::Class(class), &own, Truth::True)?;
+            first = earlier(first, other);
+        }
+    }
+    Ok(first)
+}
+
+/// The first tuple at which neither what is asserted of a symbol unwritten nor what is asserted
+/// altogether is satisfied.
+fn first_unwritten(
     alloc: Global,
     index: &GraphIndex<'_>,
     symbol: Symbol,
@@ -90,19 +136,13 @@ fn first_error(
     requires declared { IsTrue (declares index.now.problem symbol) }
     ensures { IfOk result (λ t.
         IsFirst (size_of index.now.graph) (arity_of index.now.problem.predicates symbol)
-        (is_error_at index.now.problem index.now.graph symbol) t) }
+        (is_unwritten_at index.now.problem index.now.graph symbol) t) }
 {
-    if !is_error(index, symbol) {
-        return Ok(None);
+    match symbol {
+        Symbol::Class(class) => first_literal(alloc, index, class),
+        Symbol::Predicate(predicate) => first_error(alloc, index, predicate),
+        Symbol::Reference(_) | Symbol::Exists | Symbol::Equals => Ok(None),
     }
-    let any = [None; 4];
-    first_suspect(
-        alloc,
-        index,
-        symbol,
-        &any[..arity(index, symbol)],
-        Truth::False,
-    )
 }
 
 fn speaks_of(assertion: &Assertion, symbol: Symbol) -> bool
@@ -122,7 +162,7 @@ fn broken_tuple(
         IsFirst (size_of index.now.graph) (arity_of index.now.problem.predicates symbol)
         (is_broken index.now.problem index.now.graph symbol) t) }
 {
-    let mut first = first_error(alloc, index, symbol)?;
+    let mut first = first_unwritten(alloc, index, symbol)?;
     for assertion in index.problem().assertions.iter() {
         if speaks_of(assertion, symbol) {
             let args = assertion.args.as_slice();

@@ -1,6 +1,6 @@
 //! The nodes that the variables of a clause stand for: a clause has at most eight.
 
-ghost use Rattle.std.specs.Prelude.{◌≡◌, ◌<◌, ◌≤◌, ℕ, length, map, slice_index};
+ghost use Rattle.std.specs.Prelude.{◌≡◌, ◌<◌, ◌≤◌, ℕ, length, slice_index};
 ghost use Rattle.rf_problem.specs.Reading.{assign};
 ghost use Rattle.rf_satisfy.specs.Evaluation.{AreNodes};
 
@@ -22,18 +22,6 @@ pub fn assign(assignment: [u64; 8], v: usize, x: u64) -> [u64; 8]
     let mut changed = assignment;
     changed[v] = x;
     changed
-}
-
-/// The nodes of the arguments of a call.
-pub fn arguments(assignment: [u64; 8], args: &[u8]) -> [u64; 8]
-    requires { length args.now ≤ 8 }
-    ensures { slice_index result ≡ slice_index (map (slice_index assignment) args.now) }
-{
-    let mut cells = [0; 8];
-    for (i, v) in args.iter().enumerate() {
-        cells[i] = node_of(assignment, *v);
-    }
-    cells
 }
 
 /// The assignment of parameters to the nodes of a tuple.

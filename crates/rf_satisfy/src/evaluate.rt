@@ -1,22 +1,23 @@
 //! Whether symbols hold at nodes of a graph.
 
-ghost use Rattle.std.specs.Prelude.{◌≡◌, ◌<◌, ◌≤◌, ℕ, suc, Bool, IfOk, IsTrue, length, drop, map, slice_index, slice_index_or, None, false, true, [], ◌∷◌, All};
+ghost use Rattle.std.specs.Prelude.{◌≡◌, ◌<◌, ◌≤◌, ℕ, suc, Bool, IfOk, IsTrue, length, drop, slice_index, slice_index_or, None, false, true, [], ◌∷◌, All};
 ghost use Rattle.std.specs.List.{list_any, list_all};
 ghost use Rattle.rf_problem.specs.Parts.{predicate_at, arity_of};
-ghost use Rattle.rf_problem.specs.Reading.{is_entry, assign};
+ghost use Rattle.rf_problem.specs.Reading.{Assignment, Choice, is_entry, assign, atoms_among};
 ghost use Rattle.rf_problem.specs.Valid.{is_free};
 ghost use Rattle.rf_graph.specs.Evaluate.{holds};
 ghost use Rattle.rf_finite.specs.Walks.{walk_below};
 ghost use Rattle.rf_graph.specs.Graph.{has_edge, size_of};
-ghost use Rattle.rf_satisfy.specs.Evaluation.{AreNodes, IsSound, IsSoundClause, atom_at, cell_of, clause_at, declares, literal_at, literals_at, some_atom, some_literals, symbol_at};
+ghost use Rattle.rf_satisfy.specs.Evaluation.{AreElements, AreNodes, IsSound, IsSoundClause, atom_at, cell_of, claim_at, claim_for, claim_of, clause_at, declares, is_sound_claim, literal_at, literals_at, some_claim, some_literals, symbol_at};
 
-use crate::assignment::{arguments, assign, node_of, of_tuple};
+use crate::assignment::{assign, node_of, of_tuple};
+use crate::claim::{Claim, nodes_of_variables, with_atom};
 use crate::graph_index::GraphIndex;
 use crate::neighbours::neighbours;
 use crate::pruning::some_fails;
 use crate::steps::{EdgeSteps, TableSteps, mark};
 use rf_closure::reach;
-use rf_problem::{Clause, Literal, Predicate, Symbol};
+use rf_problem::{Clause, Literal, Predicate, Symbol, Term};
 use std::alloc::{AllocError, Global};
 
 /// Whether a symbol holds at a tuple of nodes.
@@ -241,84 +242,80 @@ fn literal_holds(
             args,
         } => {
             let args = args.as_slice();
+            let claim = Claim::Holds {
+                closure: *closure,
+                symbol: *symbol,
+            };
             if *negated {
-                let some = atom_from(
-                    alloc, index, depth, variables, i, *closure, *symbol, args, 0, assignment,
+                let some = claim_inside(
+                    alloc, index, depth, variables, i, claim, args, 0, assignment,
                 )?;
                 return Ok(!some);
             }
-            atom_holds(
-                alloc,
-                index,
-                depth,
-                *closure,
-                *symbol,
-                arguments(assignment, args),
-            )
+            claim_holds(alloc, index, depth, claim, args, assignment)
         }
-        Literal::Same(a, b) => Ok(node_of(assignment, *a) == node_of(assignment, *b)),
-        Literal::Differ(a, b) => Ok(node_of(assignment, *a) != node_of(assignment, *b)),
+        Literal::Same(a, b) => {
+            claim_holds(alloc, index, depth, Claim::Same, &[*a, *b], assignment)
+        }
+        Literal::Differ(a, b) => claim_holds(
+            alloc,
+            index,
+            depth,
+            Claim::Differ,
+            &[*a, *b],
+            assignment,
+        ),
     }
 }
 
-/// Whether the atom of literal number `i` holds for some nodes for those of its own variables from
+/// Whether the claim of literal number `i` holds for some nodes for those of its own variables from
 /// number `v` on.
 #[cycle(eval)]
-fn atom_from(
+fn claim_inside(
     alloc: Global,
     index: &GraphIndex<'_>,
     depth: usize,
     variables: &[Option<u8>],
     i: usize,
-    closure: bool,
-    symbol: Symbol,
-    args: &[u8],
+    claim: Claim,
+    terms: &[Term],
     v: usize,
     assignment: [u64; 8],
 ) -> Result<bool, AllocError>
     requires few { length variables.now ≤ 8 }
-    requires declared { IsTrue (declares index.now.problem symbol) }
-    requires few_args { length args.now ≤ 8 }
+    requires sound { IsTrue (is_sound_claim index.now.problem claim) }
+    requires few_terms { length terms.now ≤ 8 }
     requires nodes { AreNodes (size_of index.now.graph) assignment }
     ensures { IfOk result (λ b.
-        b ≡ some_atom index.now.problem index.now.graph depth
-        (drop v variables.now) i closure symbol args.now v (slice_index assignment)) }
+        b ≡ some_claim index.now.problem index.now.graph depth
+        (drop v variables.now) i claim terms.now v (slice_index assignment)) }
 {
     if v >= variables.len() {
-        return atom_holds(
-            alloc,
-            index,
-            depth,
-            closure,
-            symbol,
-            arguments(assignment, args),
-        );
+        return claim_holds(alloc, index, depth, claim, terms, assignment);
     }
     if !is_of_literal(variables, v, i) {
-        return atom_from(
+        return claim_inside(
             alloc,
             index,
             depth,
             variables,
             i,
-            closure,
-            symbol,
-            args,
+            claim,
+            terms,
             v + 1,
             assignment,
         );
     }
     for x in 0..index.size() {
         let more = assign(assignment, v, x);
-        if atom_from(
+        if claim_inside(
             alloc,
             index,
             depth,
             variables,
             i,
-            closure,
-            symbol,
-            args,
+            claim,
+            terms,
             v + 1,
             more,
         )? {
@@ -326,6 +323,108 @@ fn atom_from(
         }
     }
     Ok(false)
+}
+
+/// Whether a claim holds at its terms, for some nodes for the atoms among them.
+#[cycle(eval)]
+fn claim_holds(
+    alloc: Global,
+    index: &GraphIndex<'_>,
+    depth: usize,
+    claim: Claim,
+    terms: &[Term],
+    assignment: [u64; 8],
+) -> Result<bool, AllocError>
+    requires sound { IsTrue (is_sound_claim index.now.problem claim) }
+    requires few_terms { length terms.now ≤ 8 }
+    requires nodes { AreNodes (size_of index.now.graph) assignment }
+    ensures { IfOk result (λ b.
+        b ≡ claim_of index.now.problem index.now.graph depth claim terms.now (slice_index assignment)) }
+{
+    let nodes = nodes_of_variables(assignment, terms);
+    claim_for_atoms(alloc, index, depth, claim, terms, 0, nodes)
+}
+
+/// Whether a claim holds at these nodes of its terms, but for some nodes for the atoms among the terms
+/// from number `k` on.
+#[cycle(eval)]
+fn claim_for_atoms(
+    alloc: Global,
+    index: &GraphIndex<'_>,
+    depth: usize,
+    claim: Claim,
+    terms: &[Term],
+    k: usize,
+    nodes: [u64; 8],
+) -> Result<bool, AllocError>
+    requires sound { IsTrue (is_sound_claim index.now.problem claim) }
+    requires few_terms { length terms.now ≤ 8 }
+    requires nodes { AreNodes (size_of index.now.graph) nodes }
+    ensures { IfOk result (λ b. (assignment : Assignment) (choice : Choice)
+        → AreElements nodes terms.now assignment choice
+        → b ≡ claim_for index.now.problem index.now.graph depth claim terms.now assignment
+        (atoms_among (drop k terms.now)) choice) }
+{
+    if k >= terms.len() {
+        return claim_at(alloc, index, depth, claim, nodes);
+    }
+    match terms[k] {
+        Term::Var(_) => claim_for_atoms(alloc, index, depth, claim, terms, k + 1, nodes),
+        Term::Atom(atom) => claim_for_atom(alloc, index, depth, claim, terms, k, atom, nodes),
+    }
+}
+
+/// Whether it does for some node for this atom, which is the term of number `k`, and some nodes for
+/// those after it.
+#[cycle(eval)]
+fn claim_for_atom(
+    alloc: Global,
+    index: &GraphIndex<'_>,
+    depth: usize,
+    claim: Claim,
+    terms: &[Term],
+    k: usize,
+    atom: u64,
+    nodes: [u64; 8],
+) -> Result<bool, AllocError>
+    requires sound { IsTrue (is_sound_claim index.now.problem claim) }
+    requires few_terms { length terms.now ≤ 8 }
+    requires nodes { AreNodes (size_of index.now.graph) nodes }
+    requires place { k < length terms.now }
+    ensures { IfOk result (λ b. (assignment : Assignment) (choice : Choice)
+        → AreElements nodes terms.now assignment choice
+        → b ≡ claim_for index.now.problem index.now.graph depth claim terms.now assignment
+        (atom ∷ atoms_among (drop (suc k) terms.now)) choice) }
+{
+    for x in index.nodes_matching(Some(atom)) {
+        let more = with_atom(nodes, terms, atom, *x);
+        if claim_for_atoms(alloc, index, depth, claim, terms, k + 1, more)? {
+            return Ok(true);
+        }
+    }
+    Ok(false)
+}
+
+/// Whether a claim holds at these nodes.
+#[cycle(eval)]
+fn claim_at(
+    alloc: Global,
+    index: &GraphIndex<'_>,
+    depth: usize,
+    claim: Claim,
+    nodes: [u64; 8],
+) -> Result<bool, AllocError>
+    requires sound { IsTrue (is_sound_claim index.now.problem claim) }
+    requires nodes { AreNodes (size_of index.now.graph) nodes }
+    ensures { IfOk result (λ b. b ≡ claim_at index.now.problem index.now.graph depth claim nodes) }
+{
+    match claim {
+        Claim::Holds { closure, symbol } => {
+            atom_holds(alloc, index, depth, closure, symbol, nodes)
+        }
+        Claim::Same => Ok(node_of(nodes, 0) == node_of(nodes, 1)),
+        Claim::Differ => Ok(node_of(nodes, 0) != node_of(nodes, 1)),
+    }
 }
 
 /// Whether a variable ranges over the clause.

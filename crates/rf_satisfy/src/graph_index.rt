@@ -1,7 +1,6 @@
 //! A problem and a graph that fits it.
 
 ghost use Rattle.std.specs.Prelude.{◌≡◌, ◌<◌, ℕ, All, IfOk, length};
-ghost use Rattle.std.specs.Option.{ForSome};
 ghost use Rattle.rf_problem.specs.Asserted.{matches};
 ghost use Rattle.rf_problem.specs.Classes.{is_below};
 ghost use Rattle.rf_graph.specs.Graph.{Fits, class_of, has_edge, origin_of, size_of};
@@ -85,13 +84,15 @@ impl<'a> GraphIndex<'a> {
 
     /// The nodes that come from an object that an argument matches, in ascending order.
     pub fn nodes_matching(&self, arg: Option<u64>) -> &[u64]
-        requires { ForSome arg (λ o. o < length self.now.problem.objects) }
         ensures { ArePassing (size_of self.now.graph)
             (λ x. matches arg (origin_of self.now.graph x)) result.now }
     {
         match arg {
             None => self.nodes.all.as_slice(),
-            Some(object) => self.nodes.rows[object as usize].as_slice(),
+            Some(object) => match self.nodes.rows.get(object as usize) {
+                Some(nodes) => nodes.as_slice(),
+                None => &[],
+            },
         }
     }
 

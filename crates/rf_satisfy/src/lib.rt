@@ -4,8 +4,10 @@
 //! in about as many steps as there are nodes and edges.
 #![tactic(auto)]
 
+mod anchors;
 mod asserted;
 mod assignment;
+mod claim;
 mod container_of;
 mod containers;
 mod cycle;

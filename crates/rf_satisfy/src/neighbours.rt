@@ -1,20 +1,20 @@
 //! The nodes that a variable of a clause can stand for by an edge that the clause asks for, from or
-//! to the node of a variable before it.
+//! to the node of an atom or of a variable before it.
 
 ghost use Rattle.std.specs.Prelude.{◌<◌, All, IfSome, false};
 ghost use Rattle.rf_graph.specs.Graph.{size_of};
 ghost use Rattle.rf_satisfy.specs.Pruning.{FailElsewhere, FailsElsewhere};
 
-use crate::assignment::node_of;
+use crate::anchors::{anchor, is_variable};
 use crate::graph_index::GraphIndex;
-use rf_problem::{Literal, Symbol};
+use rf_problem::{Literal, Symbol, Term};
 
-/// Where one argument of the reference is variable `v` and the other one before it, the nodes at
-/// the other ends of that one's edges.
+/// Where one argument of the reference is variable `v` and the node of the other one is known, the
+/// nodes at the other ends of that one's edges.
 fn ends<'v>(
     index: &'v GraphIndex<'_>,
     reference: u32,
-    args: &[u8],
+    args: &[Term],
     v: usize,
     assignment: [u64; 8],
 ) -> Option<&'v [u64]>
@@ -26,11 +26,13 @@ fn ends<'v>(
     if args.len() != 2 {
         return None;
     }
-    if (args[0] as usize) < v && args[1] as usize == v {
-        return Some(index.ends_from(reference, node_of(assignment, args[0])));
+    if is_variable(args[1], v) {
+        let x = anchor(index, args[0], v, assignment)?;
+        return Some(index.ends_from(reference, x));
     }
-    if args[0] as usize == v && (args[1] as usize) < v {
-        return Some(index.ends_into(reference, node_of(assignment, args[1])));
+    if is_variable(args[0], v) {
+        let y = anchor(index, args[1], v, assignment)?;
+        return Some(index.ends_into(reference, y));
     }
     None
 }
@@ -39,7 +41,7 @@ fn ends<'v>(
 fn ends_as_edge<'v>(
     index: &'v GraphIndex<'_>,
     symbol: Symbol,
-    args: &[u8],
+    args: &[Term],
     v: usize,
     assignment: [u64; 8],
 ) -> Option<&'v [u64]>
@@ -55,7 +57,7 @@ fn ends_as_edge<'v>(
 }
 
 /// The nodes outside of which for variable `v` a literal fails, where it asks for an edge from or
-/// to the node of a variable before `v`.
+/// to the node of an atom or of a variable before `v`.
 fn ends_of<'v>(
     index: &'v GraphIndex<'_>,
     literal: &Literal,
@@ -83,7 +85,8 @@ fn ends_of<'v>(
 }
 
 /// The nodes outside of which for variable `v` the literals fail together, by the first of them
-/// that says so by an edge from or to the node of a variable before `v`. None says nothing.
+/// that says so by an edge from or to the node of an atom or of a variable before `v`. None says
+/// nothing.
 pub fn neighbours<'v>(
     index: &'v GraphIndex<'_>,
     literals: &[Literal],

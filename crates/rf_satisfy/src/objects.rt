@@ -14,15 +14,19 @@ use crate::nodes::{class_of, origin_of};
 use crate::tables::{falses, zeros};
 use rf_finite::{Rule, first_found};
 use rf_graph::{Graph, Violation};
-use rf_problem::{ObjectName, Problem};
+use rf_problem::{ObjectDecl, ObjectKind, ObjectName, Problem};
 use std::alloc::{AllocError, Global};
 
-fn may_have_class(name: &ObjectName, class: u32) -> bool
-    ensures { result ≡ may_have_class name.now class }
+// Whether a node of this class may come from an object: `C::new` has nodes of class C, a literal those
+// of its enum, and any other object those of classes that are no enums.
+fn may_have_class(problem: &Problem, object: &ObjectDecl, class: u32) -> bool
+    requires { class < length problem.now.classes }
+    ensures { result ≡ may_have_class problem.now.classes object.now.name object.now.kind class }
 {
-    match name {
-        ObjectName::Named(_) => true,
-        ObjectName::NewOf(own) => class == *own,
+    match (&object.name, object.kind) {
+        (ObjectName::NewOf(own), _) => class == *own,
+        (ObjectName::Named(_), ObjectKind::LiteralOf(own)) => class == own,
+        (ObjectName::Named(_), _) => !problem.class(class).is_enum,
     }
 }
 
@@ -33,7 +37,7 @@ fn is_native(problem: &Problem, graph: &Graph, node: u64) -> bool
     ensures { result ≡ is_native problem.now graph.now node }
 {
     let object = problem.object(origin_of(graph, node));
-    may_have_class(&object.name, class_of(graph, node))
+    may_have_class(problem, object, class_of(graph, node))
 }
 
 fn count_nodes(problem: &Problem, graph: &Graph, counts: &mut [u64], strange: &mut [bool])

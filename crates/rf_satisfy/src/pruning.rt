@@ -4,36 +4,34 @@
 ghost use Rattle.std.specs.Prelude.{◌≡◌, ◌<◌, true, false};
 ghost use Rattle.rf_satisfy.specs.Pruning.{FailTogether, FailsFrom};
 
-use crate::assignment::node_of;
+use crate::anchors::anchors;
 use crate::graph_index::GraphIndex;
-use rf_problem::{Literal, Symbol};
+use rf_problem::{Literal, Symbol, Term};
 
-/// Whether there is no edge of the reference between the nodes of these two variables, both before
-/// number `v`.
+/// Whether there is no edge of the reference between the nodes of these two terms, which are known.
 fn is_missing(
     index: &GraphIndex<'_>,
     reference: u32,
-    args: &[u8],
+    args: &[Term],
     v: usize,
     assignment: [u64; 8],
 ) -> bool
     ensures { result ≡ true → FailsFrom index.now.problem index.now.graph v assignment (Literal.Call false false (Symbol.Reference reference) args.now) }
 {
-    if args.len() != 2 || args[0] as usize >= v || args[1] as usize >= v {
+    if args.len() != 2 {
         return false;
     }
-    !index.has_edge(
-        reference,
-        node_of(assignment, args[0]),
-        node_of(assignment, args[1]),
-    )
+    let Some((x, y)) = anchors(index, args[0], args[1], v, assignment) else {
+        return false;
+    };
+    !index.has_edge(reference, x, y)
 }
 
 /// Whether the symbol is a reference of which there is no such edge.
 fn fails_as_edge(
     index: &GraphIndex<'_>,
     symbol: Symbol,
-    args: &[u8],
+    args: &[Term],
     v: usize,
     assignment: [u64; 8],
 ) -> bool
@@ -45,8 +43,40 @@ fn fails_as_edge(
     }
 }
 
-/// Whether a literal fails that names only variables before number `v`. Only edges and comparisons of
-/// nodes are tried.
+/// Whether the nodes of both terms are known, and different.
+fn are_different(
+    index: &GraphIndex<'_>,
+    a: Term,
+    b: Term,
+    v: usize,
+    assignment: [u64; 8],
+) -> bool
+    ensures { result ≡ true → FailsFrom index.now.problem index.now.graph v assignment (Literal.Same a b) }
+{
+    match anchors(index, a, b, v, assignment) {
+        Some((x, y)) => x != y,
+        None => false,
+    }
+}
+
+/// Whether they are known, and the same.
+fn are_same(
+    index: &GraphIndex<'_>,
+    a: Term,
+    b: Term,
+    v: usize,
+    assignment: [u64; 8],
+) -> bool
+    ensures { result ≡ true → FailsFrom index.now.problem index.now.graph v assignment (Literal.Differ a b) }
+{
+    match anchors(index, a, b, v, assignment) {
+        Some((x, y)) => x == y,
+        None => false,
+    }
+}
+
+/// Whether a literal fails that names only atoms, and variables before number `v`. Only edges and
+/// comparisons of nodes are tried.
 fn fails(index: &GraphIndex<'_>, literal: &Literal, v: usize, assignment: [u64; 8]) -> bool
     ensures { result ≡ true → FailsFrom index.now.problem index.now.graph v assignment literal.now }
 {
@@ -62,16 +92,8 @@ fn fails(index: &GraphIndex<'_>, literal: &Literal, v: usize, assignment: [u64; 
             }
             fails_as_edge(index, *symbol, args.as_slice(), v, assignment)
         }
-        Literal::Same(a, b) => {
-            (*a as usize) < v
-                && (*b as usize) < v
-                && node_of(assignment, *a) != node_of(assignment, *b)
-        }
-        Literal::Differ(a, b) => {
-            (*a as usize) < v
-                && (*b as usize) < v
-                && node_of(assignment, *a) == node_of(assignment, *b)
-        }
+        Literal::Same(a, b) => are_different(index, *a, *b, v, assignment),
+        Literal::Differ(a, b) => are_same(index, *a, *b, v, assignment),
     }
 }
 

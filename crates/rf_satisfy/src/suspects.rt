@@ -2,7 +2,6 @@
 //! what is asserted altogether is satisfied.
 
 ghost use Rattle.std.specs.Prelude.{◌≡◌, ◌-◌, ◌<◌, ◌≤◌, ◌&&◌, ℕ, All, IfOk, IsTrue, true, length, map, take};
-ghost use Rattle.std.specs.Option.{ForSome};
 ghost use Rattle.rf_problem.specs.Asserted.{match_each, matches};
 ghost use Rattle.rf_problem.specs.Parts.{arity_of};
 ghost use Rattle.rf_graph.specs.Evaluate.{holds};
@@ -88,7 +87,6 @@ pub fn first_from(
     requires declared { IsTrue (declares index.now.problem symbol) }
     requires arity { length args.now ≡ arity_of index.now.problem.predicates symbol }
     requires few { length args.now ≤ 4 }
-    requires objects { All (λ arg. ForSome arg (λ o. o < length index.now.problem.objects)) args.now }
     requires short { length prefix ≤ length args.now }
     requires nodes { All (λ x. x < size_of index.now.graph) prefix }
     requires matched { match_each (take (length prefix) args.now) (map (origin_of index.now.graph) prefix) ≡ true }

@@ -11,40 +11,6 @@ use Rattle.rf_satisfy.proofs.PruningLemmas.{pruned}
 use Rattle.rf_satisfy.specs.Evaluation.{symbol_at}
 use Rattle.rf_satisfy.proofs.evaluate.+eval.Goals as goal
 
-pub atom_from-atom_holds-requires : goal.atom_from-atom_holds-requires
-atom_from-atom_holds-requires t c =
-    (search rules, (c.requires.declared, AreNodes-arguments c.arguments.result c.args.assignment c.args.args.now _ c.arguments.ensures c.requires.nodes))
-
-pub atom_from-returns-then-v-variables : goal.atom_from-returns-then-v-variables
-atom_from-returns-then-v-variables t c =
-    let none : drop c.args.v c.args.variables.now ≡ [] = drop_all c.args.v c.args.variables.now (omega arith) in
-    let same = atom_at-same c.args.index.now.problem c.args.index.now.graph c.args.depth c.args.closure c.args.symbol c.arguments.result (map (slice_index c.args.assignment) c.args.args.now) c.arguments.ensures in
-    rw none (rw same at c.atom_holds.ensures)
-
-pub atom_from-atom_from-requires-in-loop-x : goal.atom_from-atom_from-requires-in-loop-x
-atom_from-atom_from-requires-in-loop-x t c =
-    let l : c.loop-x.x < size_of c.args.index.now.graph = omega (arith, c.size-x-end.ensures) in (
-      search rules,
-      (
-        c.requires.few,
-        (
-          c.requires.declared,
-          (
-            c.requires.few_args,
-            AreNodes-assign c.assign-more.result c.args.assignment _ c.args.v c.loop-x.x c.assign-more.ensures l c.requires.nodes,
-          ),
-        ),
-      ),
-    )
-
-pub atom_from-returns-then-branch : goal.atom_from-returns-then-branch
-atom_from-returns-then-branch t c =
-    let lx : c.loop-x.x < size_of c.args.index.now.graph = omega (arith, c.size-x-end.ensures) in
-    let e = sym c.is_of_literal.ensures ∙ c.if-not-is_of_literal.false in
-    let l : c.args.v < length c.args.variables.now = omega arith in
-    let here = sym (rw (add-one, c.assign-more.ensures) at c.in_ok-atom_from.ensures) ∙ c.if-branch.true in
-    rw (some_assignment-at, e) (sym (some_below-from_one (size_of c.args.index.now.graph) _ c.loop-x.x lx here))
-
 pub atom_holds-symbol_holds-requires-then-size-eq0 : goal.atom_holds-symbol_holds-requires-then-size-eq0
 atom_holds-symbol_holds-requires-then-size-eq0 t c =
     let n = max 1 (size_of c.args.index.now.graph) in
@@ -127,16 +93,6 @@ clause_among-loop-x-preserved t c =
     list_any-next _ c.args.nodes.now c.loop-x.x-index (get_or c.args.nodes.now c.loop-x.x-index 0) c.loop-x-test.true c.loop-x.invariant
     (get_or_default c.args.nodes.now c.loop-x.x-index 0 (get_or c.args.nodes.now c.loop-x.x-index 0) c.loop-x-test.true)
     (sym (rw (add-one, c.assign.ensures) at c.in_ok-clause_from.ensures) ∙ c.if-branch.false)
-
-pub literal_holds-atom_holds-requires : goal.literal_holds-atom_holds-requires
-literal_holds-atom_holds-requires t c =
-    let declared = (declared-from_IsSound c.args.index.now.problem c.args.variables.now c.args.i c.in-Call.negated c.in-Call.closure c.in-Call.symbol c.in-Call.args (rw c.in-Call.is at c.requires.sound)).0 in
-    (search rules, (declared, AreNodes-arguments c.arguments.result c.args.assignment c.as_slice-args.result.now _ c.arguments.ensures c.requires.nodes))
-
-pub literal_holds-returns-else-negated : goal.literal_holds-returns-else-negated
-literal_holds-returns-else-negated t c =
-    let same = atom_at-same c.args.index.now.problem c.args.index.now.graph c.args.depth c.in-Call.closure c.in-Call.symbol c.arguments.result (map (slice_index c.args.assignment) c.as_slice-args.result.now) c.arguments.ensures in
-    rw (c.in-Call.is, c.if-negated.false) (rw (same, c.as_slice-args.ensures) at c.atom_holds.ensures)
 
 pub predicate_holds-returns : goal.predicate_holds-returns
 predicate_holds-returns t c =
