@@ -37,7 +37,7 @@ any-none p xs e = elim (cases_Bool (list_any p xs)) [
   | inr none ↦ none
 ]
 
-any-some : {X : Type 0} (p : X → Bool) (xs : List X) (n : ℕ) → position p xs ≡ Some n →
+pub any-some : {X : Type 0} (p : X → Bool) (xs : List X) (n : ℕ) → position p xs ≡ Some n →
     list_any p xs ≡ true
 any-some p [] n e = let never : ⊥ = cc in absurd never
 any-some p (x ∷ xs) n e =

@@ -1,6 +1,6 @@
 -- The problem that a text stands for: each list is that of its declarations in order, and each number
 -- that of what its name stands for.
-use Rattle.std.specs.Prelude.{ℕ, Option, None, Some, map, List, [], ◌∷◌, false, suc, ◌++◌, ◌==◌, Bool, ◌&&◌, if◌then◌else◌, nat_lt, length, ◌≡◌}
+use Rattle.std.specs.Prelude.{ℕ, Option, None, Some, map, List, [], ◌∷◌, true, false, suc, ◌++◌, ◌==◌, Bool, ◌&&◌, if◌then◌else◌, nat_lt, length, ◌≡◌}
 use Rattle.std.specs.List.{list_any, range_with_len}
 use Rattle.rf_syntax.specs.declared.range.Upper.{Upper}
 use Rattle.rf_syntax.specs.declared.range.Upper.TheVariants.{Absent, Star as Unbounded, Number}
