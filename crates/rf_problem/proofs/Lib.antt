@@ -1,11 +1,14 @@
 pub mod AboveLemmas
 pub mod ApartLemmas
-pub mod AssertedLemmas
+pub mod ArityLemmas
 pub mod BelowLemmas
 pub mod Below
 pub mod CallLemmas
 pub mod Choices
 pub mod CycleLemmas
 pub mod Depth
+pub mod HeardLemmas
+pub mod KeyLemmas
 pub mod StockLemmas
+pub mod TableLemmas
 pub mod ProblemLemmas

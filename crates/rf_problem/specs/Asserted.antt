@@ -1,19 +1,19 @@
 -- What is stated of symbols and objects.
-use Rattle.std.specs.Prelude.{ℕ, max, Bool, true, false, ◌==◌, ◌&&◌, if◌then◌else◌, Option, None, Some, List, [], ◌∷◌, ◌++◌, map, filter, slice_index_or}
+use Rattle.std.specs.Prelude.{ℕ, max, Bool, true, false, ◌==◌, ◌&&◌, if◌then◌else◌, Option, None, Some, List, [], ◌∷◌, ◌++◌, map, filter}
 use Rattle.rf_values.specs.declared.count.Count.{Count}
 use Rattle.rf_values.specs.declared.truth.Truth.{Truth}
 use Rattle.rf_values.specs.declared.truth.Truth.TheVariants.{True, False, Unknown, Error}
 use Rattle.rf_values.specs.Count.{lesser_end}
-use Rattle.rf_values.specs.Truth.{merge}
+pub use Rattle.rf_problem.specs.Merged.{merge_all}
+use Rattle.rf_problem.specs.Merged.{merged}
 use Rattle.rf_problem.specs.Parts.{object_at, predicate_at, same_symbol}
 use Rattle.rf_problem.specs.declared.assertion.Assertion.{Assertion}
-use Rattle.rf_problem.specs.declared.object.ObjectDecl.{ObjectDecl}
+use Rattle.rf_problem.specs.declared.heard.Heard.{Heard}
 use Rattle.rf_problem.specs.declared.object.ObjectKind.{ObjectKind}
 use Rattle.rf_problem.specs.declared.object.ObjectKind.TheVariants.{Plain, Atom, LiteralOf}
-use Rattle.rf_problem.specs.declared.object.ObjectName.TheVariants.{NewOf}
 use Rattle.rf_problem.specs.declared.problem.Problem.{Problem}
 use Rattle.rf_problem.specs.declared.symbol.Symbol.{Symbol}
-use Rattle.rf_problem.specs.declared.symbol.Symbol.TheVariants.{Class, Reference, Predicate as Defined, Exists, Equals}
+use Rattle.rf_problem.specs.declared.symbol.Symbol.TheVariants.{Class, Predicate as Defined, Exists, Equals}
 
 -- whether an argument matches an object: it is that object, or `*`
 abbrev pub matches : Option ℕ → ℕ → Bool
@@ -38,6 +38,13 @@ is_ordinary s t a = if a.is_default then false else speaks_of s t a
 abbrev pub is_default : Symbol → List ℕ → Assertion → Bool
 is_default s t a = if a.is_default then speaks_of s t a else false
 
+-- what assertions say of a symbol at a tuple: the merge of the ordinary ones, if any speaks of it, and that of the defaults
+abbrev pub heard : List Assertion → Symbol → List ℕ → Heard
+heard assertions s t = record {
+  ordinary = merged (map (λ a. a.value) (filter (is_ordinary s t) assertions));
+  default = merged (map (λ a. a.value) (filter (is_default s t) assertions));
+}
+
 -- whether an object of this kind is a literal of enum c
 abbrev pub is_literal_of : ObjectKind → ℕ → Bool
 is_literal_of Plain c = false
@@ -61,11 +68,6 @@ ordinary_values p s t = map (λ a. a.value) (filter (is_ordinary s t) p.assertio
 -- the values of the defaults that match
 abbrev pub default_values : Problem → Symbol → List ℕ → List Truth
 default_values p s t = map (λ a. a.value) (filter (is_default s t) p.assertions)
-
--- the merge of truths, unknown where there is none
-abbrev pub merge_all : List Truth → Truth
-merge_all [] = Unknown
-merge_all (v ∷ vs) = merge v (merge_all vs)
 
 -- the merge of the first list where it has a value, else that of the second
 abbrev pub merge_first : List Truth → List Truth → Truth

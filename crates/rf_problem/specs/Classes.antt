@@ -1,5 +1,5 @@
 -- The order of classes.
-use Rattle.std.specs.Prelude.{◌≡◌, ◌⊎◌, ◌==◌, ◌&&◌, ◌||◌, ◌<◌, not, nat_lt, ℕ, Bool, true, false, List, [], length, slice_index_or}
+use Rattle.std.specs.Prelude.{◌≡◌, ◌⊎◌, ◌==◌, ◌&&◌, ◌||◌, not, nat_lt, ℕ, Bool, true, false, List, [], length, slice_index_or}
 use Rattle.std.specs.List.{list_any}
 use Rattle.rf_finite.specs.Walks.{IsReachable, walk_below}
 use Rattle.rf_problem.specs.declared.class.Class.{Class}

@@ -4,6 +4,7 @@ pub mod Classes
 pub mod Valid
 pub mod Made
 pub mod Contained
+pub mod Merged
 pub mod Asserted
 pub mod Reading
 pub mod Laws
@@ -13,4 +14,7 @@ pub mod Raised
 pub mod Below
 pub mod Cycles
 pub mod Calling
-pub mod Heard
+pub mod Spoken
+pub mod Table
+pub mod Patterns
+pub mod Unwritten

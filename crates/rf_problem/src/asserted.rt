@@ -1,88 +1,15 @@
 //! What the assertions of a problem say together.
 
 ghost use Rattle.std.specs.Prelude.{◌≡◌, ◌<◌, length};
-ghost use Rattle.rf_problem.specs.Asserted.{admitted, asserted, match_each, matches, speaks_of, unwritten, when, with_equals, with_exists};
+ghost use Rattle.rf_problem.specs.Asserted.{admitted, asserted, unwritten, when, with_equals, with_exists};
 ghost use Rattle.rf_values.specs.declared.truth.Truth.TheVariants.{True};
-ghost use Rattle.rf_problem.specs.Heard.{heard_with, listed};
+ghost use Rattle.rf_problem.specs.Unwritten.{listed};
 ghost use Rattle.rf_problem.specs.declared.symbol.Symbol.TheVariants.{Class};
-ghost use Rattle.rf_problem.specs.Parts.{arity_of, predicate_at, same_symbol};
+ghost use Rattle.rf_problem.specs.Parts.{arity_of, predicate_at};
 
-use crate::{Assertion, ObjectKind, Problem, Symbol};
+use crate::heard::joined;
+use crate::{ObjectKind, Problem, Symbol};
 use rf_values::{Count, Truth};
-
-// What was heard so far of a symbol at a tuple.
-#[derive(Clone, Copy)]
-struct Heard {
-    // The merge of the ordinary assertions that spoke of it, if any did.
-    ordinary: Option<Truth>,
-    // The merge of the defaults that did, unknown where none did.
-    default: Truth,
-}
-
-fn is_same(a: Symbol, b: Symbol) -> bool
-    ensures { result ≡ same_symbol a b }
-{
-    match (a, b) {
-        (Symbol::Class(a), Symbol::Class(b)) => a == b,
-        (Symbol::Reference(a), Symbol::Reference(b)) => a == b,
-        (Symbol::Predicate(a), Symbol::Predicate(b)) => a == b,
-        (Symbol::Exists, Symbol::Exists) => true,
-        (Symbol::Equals, Symbol::Equals) => true,
-        _ => false,
-    }
-}
-
-// Whether an argument is this object, or `*`.
-fn matches(arg: Option<u64>, object: u64) -> bool
-    ensures { result ≡ matches arg object }
-{
-    arg.is_none_or(|own| own == object)
-}
-
-// Whether each argument is the object at its place, or `*`.
-fn match_each(args: &[Option<u64>], tuple: &[u64]) -> bool
-    ensures { result ≡ match_each args.now tuple.now }
-{
-    if args.len() != tuple.len() {
-        return false;
-    }
-    for i in 0..args.len() {
-        if !matches(args[i], tuple[i]) {
-            return false;
-        }
-    }
-    true
-}
-
-fn speaks_of(assertion: &Assertion, symbol: Symbol, tuple: &[u64]) -> bool
-    ensures { result ≡ speaks_of symbol tuple.now assertion.now }
-{
-    is_same(assertion.symbol, symbol) && match_each(assertion.args.as_slice(), tuple)
-}
-
-// What is heard with one more assertion.
-fn hear(heard: Heard, assertion: &Assertion, symbol: Symbol, tuple: &[u64]) -> Heard
-    ensures { result ≡ heard_with symbol tuple.now heard assertion.now }
-{
-    if !speaks_of(assertion, symbol, tuple) {
-        return heard;
-    }
-    let value = assertion.value;
-    if assertion.is_default {
-        return Heard {
-            ordinary: heard.ordinary,
-            default: heard.default.merge(value),
-        };
-    }
-    let merged = match heard.ordinary {
-        Some(other) => other.merge(value),
-        None => value,
-    };
-    Heard {
-        ordinary: Some(merged),
-        default: heard.default,
-    }
-}
 
 fn with_exists(known: Truth, count: Count) -> Count
     ensures { result ≡ with_exists known count }
@@ -145,14 +72,9 @@ impl Problem {
         requires { length tuple.now ≡ arity_of self.now.predicates symbol }
         ensures { result ≡ asserted self.now symbol tuple.now }
     {
-        let mut heard = Heard {
-            ordinary: self.unwritten(symbol, tuple),
-            default: Truth::Unknown,
-        };
-        for assertion in self.assertions.iter() {
-            heard = hear(heard, assertion, symbol, tuple);
-        }
-        heard.ordinary.unwrap_or(heard.default)
+        let heard = self.assertions.heard(symbol, tuple);
+        let ordinary = joined(heard.ordinary, self.unwritten(symbol, tuple));
+        ordinary.or(heard.default).unwrap_or(Truth::Unknown)
     }
 
     /// How many nodes may come from an object.

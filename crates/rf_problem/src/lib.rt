@@ -8,23 +8,29 @@
 
 mod asserted;
 mod assertion;
+mod assertions;
 mod class;
 mod class_order;
 mod classes;
+mod heard;
 mod laws;
 mod make;
 mod object;
 mod parts;
+mod pattern;
 mod predicate;
 mod problem;
 mod reference;
 mod scope;
 mod stock;
 mod symbol;
+mod table;
 
 pub use assertion::Assertion;
+pub use assertions::Assertions;
 pub use class::Class;
 pub use class_order::ClassOrder;
+pub use heard::Heard;
 pub use laws::{below_law, depth_law, problem_law};
 pub use object::{ObjectDecl, ObjectKind, ObjectName};
 pub use predicate::{Clause, Literal, Predicate, Term};

@@ -15,7 +15,7 @@ mod references;
 mod scopes;
 mod symbols;
 
-use crate::{Assertion, Class, ObjectDecl, Predicate, Problem, Reference, Scope};
+use crate::{Assertion, Assertions, Class, ObjectDecl, Predicate, Problem, Reference, Scope};
 use assertions::are_assertions;
 use classes::are_classes;
 use objects::are_objects;
@@ -86,7 +86,7 @@ impl Problem {
             references: Items::from_vec(references),
             predicates: Items::from_vec(predicates),
             objects: Items::from_vec(objects),
-            assertions: Items::from_vec(assertions),
+            assertions: Assertions::of(alloc, assertions)?,
             scopes: Items::from_vec(scopes),
         }))
     }

@@ -1,6 +1,6 @@
 ghost use Rattle.rf_problem.specs.Valid.{AreAssertions, AreClasses, AreObjects, ArePredicates, AreReferences, AreScopes};
 
-use crate::{Assertion, Class, ObjectDecl, Predicate, Reference, Scope};
+use crate::{Assertions, Class, ObjectDecl, Predicate, Reference, Scope};
 use rf_text::Items;
 
 /// A problem: what is declared and stated, each number the place of what it stands for.
@@ -11,7 +11,7 @@ pub struct Problem {
     pub predicates: Items<Predicate>,
     /// The named objects, and after them one `C::new` for each class that is neither abstract nor an enum.
     pub objects: Items<ObjectDecl>,
-    pub assertions: Items<Assertion>,
+    pub assertions: Assertions,
     pub scopes: Items<Scope>,
     ghost classes_fit: { AreClasses classes },
     ghost references_fit: { AreReferences classes references },

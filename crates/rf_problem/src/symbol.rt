@@ -1,5 +1,5 @@
 /// What a fact speaks of.
-#[derive(Clone, Copy, Debug, PartialEq, Eq)]
+#[derive(Clone, Copy, Debug, PartialEq, Eq, PartialOrd, Ord)]
 pub enum Symbol {
     /// That an object has the class of this number; one argument.
     Class(u32),
