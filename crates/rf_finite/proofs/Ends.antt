@@ -1,5 +1,5 @@
 -- Lemmas on ends.
-use Rattle.std.proofs.Common.{◌≡◌, ℕ, zero, suc, ◌+◌, ◌*◌, ◌≤◌, ◌<◌, Bool, true, Option, Some, None, IfSome, refl, subst, inl, inr, arith}
+use Rattle.std.proofs.Common.{◌≡◌, ℕ, zero, suc, ◌+◌, ◌*◌, ◌≤◌, ◌<◌, Bool, true, Option, Some, None, IfSome, refl, sym, ◌∙◌, subst, inl, inr, arith}
 use Rattle.std.proofs.lemmas.Bool.{cases_Bool, leb-true, le-leb}
 use Rattle.rf_finite.specs.Range.{sum_below}
 use Rattle.rf_finite.proofs.Range.{None-ne_Some, below_or_last}
@@ -37,12 +37,20 @@ add_ends-le (Some t) (Some n) limit c d a b q = rw q (omega arith)
 pub within-from_le : (m n : ℕ) (e : Option ℕ) → e ≡ Some n → m ≤ n → within m e ≡ true
 within-from_le m n e h l = rw h (le-leb m n l)
 
--- ends that agree have the same sum
+-- ends that agree where their numbers pass sum to the same
+pub ends_below-pointwise : (n : ℕ) (p q : ℕ → Bool) (f g : ℕ → Option ℕ) → ((k : ℕ) → k < n → p k ≡ q k) → ((k : ℕ) → k < n → p k ≡ true → f k ≡ g k) → ends_below n p f ≡ ends_below n q g
+ends_below-pointwise zero p q f g hp hf = refl
+ends_below-pointwise (suc n) p q f g hp hf =
+    let rest = ends_below-pointwise n p q f g (λ k l. hp k (omega arith)) (λ k l. hf k (omega arith)) in
+    let test = hp n (omega arith) in
+    elim (cases_Bool (p n)) [
+      | inl e ↦ (let term = hf n (omega arith) e in let other = sym test ∙ e in rw (e, other, rest, term) refl)
+      | inr e ↦ (let other = sym test ∙ e in rw (e, other, rest) refl)
+    ]
+
+-- tests and ends that agree have the same sum
 pub ends_below-same : (n : ℕ) (p q : ℕ → Bool) (f g : ℕ → Option ℕ) → ((k : ℕ) → k < n → p k ≡ q k) → ((k : ℕ) → k < n → f k ≡ g k) → ends_below n p f ≡ ends_below n q g
-ends_below-same zero p q f g hp hf = refl
-ends_below-same (suc n) p q f g hp hf =
-    let rest = ends_below-same n p q f g (λ k l. hp k (omega arith)) (λ k l. hf k (omega arith)) in
-    let test = hp n (omega arith) in let term = hf n (omega arith) in rw (rest, test, term) refl
+ends_below-same n p q f g hp hf = ends_below-pointwise n p q f g hp (λ k l e. hf k l)
 
 add_ends-None : (a : Option ℕ) → add_ends a None ≡ None
 add_ends-None None = refl

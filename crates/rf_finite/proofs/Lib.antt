@@ -1,5 +1,9 @@
 pub mod Range
 pub mod Ends
+pub mod Sums
+pub mod Firsts
+pub mod KeyedFirsts
+pub mod Tuples
 pub mod Lists
 pub mod Repeats
 pub mod Walks

@@ -1,7 +1,7 @@
 -- Lemmas on tests, counts, sums and first values over the numbers below a bound.
 use Rattle.std.proofs.Common.{◌≡◌, ℕ, zero, suc, ◌+◌, ◌≤◌, ◌<◌, Bool, true, false, cond, not, ◌&&◌, eqb, Option, Some, None, ◌⊎◌, refl, sym, ap, ◌∙◌, subst, inl, inr, arith, true≢false, add-one}
-use Rattle.std.proofs.lemmas.Bool.{and_parts, and_from, or_cases, or_left, or_right, or_from, cases_Bool, cases_eq, cases_order, both_ways, false_from_ne_true, ne_eqb, eq-eqb, eqb-true}
-use Rattle.std.specs.Option.{option_or}
+use Rattle.std.proofs.lemmas.Bool.{and_parts, and_from, or_cases, or_left, or_right, or_from, cases_Bool, cases_eq, cases_lt, cases_order, both_ways, false_from_ne_true, ne_eqb, eq-eqb, eqb-true}
+use Rattle.std.specs.Option.{option_map, option_or}
 use Rattle.rf_finite.specs.Range.{some_below, all_below, count_below, sum_below, first_below, IsFirstValue}
 
 -- a number below n + 1 is below n, or n itself
@@ -78,12 +78,29 @@ count_below-cover (suc n) p q r h =
       | inr e ↦ rw e (omega arith)
     ]
 
+more_below : (n : ℕ) (p q : ℕ → Bool) (f g : ℕ → ℕ) → ((k : ℕ) → k < n → p k ≡ true → (q k ≡ true) × (f k ≤ g k)) → sum_below n p f ≤ sum_below n q g
+more_below zero p q f g h = omega arith
+more_below (suc n) p q f g h =
+    let rest = more_below n p q f g (λ k l. h k (omega arith)) in
+    elim (cases_Bool (p n)) [
+      | inl e ↦ (let here = h n (omega arith) e in let term = here.1 in rw (e, here.0) (omega arith))
+      | inr e ↦ rw e (omega arith)
+    ]
+
+further_below : (m n : ℕ) (p : ℕ → Bool) (f : ℕ → ℕ) → m ≤ n → sum_below m p f ≤ sum_below n p f
+further_below m zero p f l = let e : m ≡ 0 = omega arith in rw e (omega arith)
+further_below m (suc n) p f l = elim (cases_lt n m) [
+  | inl last ↦ (let e : m ≡ suc n = omega arith in rw e (omega arith))
+  | inr before ↦ (let rest = further_below m n p f before in omega arith)
+]
+
+-- more numbers and greater terms sum to no less
+pub sum_below-more : (m n : ℕ) (p q : ℕ → Bool) (f g : ℕ → ℕ) → m ≤ n → ((k : ℕ) → k < m → p k ≡ true → (q k ≡ true) × (f k ≤ g k)) → sum_below m p f ≤ sum_below n q g
+sum_below-more m n p q f g l h = let here = more_below m p q f g h in let rest = further_below m n q g l in omega arith
+
 -- greater terms sum to no less
 pub sum_below-le : (n : ℕ) (p : ℕ → Bool) (f g : ℕ → ℕ) → ((k : ℕ) → k < n → p k ≡ true → f k ≤ g k) → sum_below n p f ≤ sum_below n p g
-sum_below-le zero p f g h = omega arith
-sum_below-le (suc n) p f g h =
-    let rest = sum_below-le n p f g (λ k l e. h k (omega arith) e) in
-    elim (cases_Bool (p n)) [ inl e ↦ (let here = h n (omega arith) e in rw e (omega arith)) | inr e ↦ rw e (omega arith) ]
+sum_below-le n p f g h = more_below n p p f g (λ k l e. (e, h k l e))
 
 pub sum_below-zero : (n : ℕ) (p : ℕ → Bool) → sum_below n p (λ k. 0) ≡ 0
 sum_below-zero zero p = refl
@@ -202,12 +219,20 @@ pub count_below-all : (n : ℕ) (p : ℕ → Bool) → ((k : ℕ) → k < n → 
 count_below-all zero p h = refl
 count_below-all (suc n) p h = let rest = count_below-all n p (λ k l. h k (omega arith)) in let here = h n (omega arith) in rw (here, rest) (omega arith)
 
--- terms and tests that agree sum to the same
+-- terms that agree where their numbers pass sum to the same
+pub sum_below-pointwise : (n : ℕ) (p q : ℕ → Bool) (f g : ℕ → ℕ) → ((k : ℕ) → k < n → p k ≡ q k) → ((k : ℕ) → k < n → p k ≡ true → f k ≡ g k) → sum_below n p f ≡ sum_below n q g
+sum_below-pointwise zero p q f g hp hf = refl
+sum_below-pointwise (suc n) p q f g hp hf =
+    let rest = sum_below-pointwise n p q f g (λ k l. hp k (omega arith)) (λ k l. hf k (omega arith)) in
+    let test = hp n (omega arith) in
+    elim (cases_Bool (p n)) [
+      | inl e ↦ (let term = hf n (omega arith) e in let other = sym test ∙ e in rw (e, other, rest, term) refl)
+      | inr e ↦ (let other = sym test ∙ e in rw (e, other, rest) refl)
+    ]
+
+-- tests and terms that agree sum to the same
 pub sum_below-same : (n : ℕ) (p q : ℕ → Bool) (f g : ℕ → ℕ) → ((k : ℕ) → k < n → p k ≡ q k) → ((k : ℕ) → k < n → f k ≡ g k) → sum_below n p f ≡ sum_below n q g
-sum_below-same zero p q f g hp hf = refl
-sum_below-same (suc n) p q f g hp hf =
-    let rest = sum_below-same n p q f g (λ k l. hp k (omega arith)) (λ k l. hf k (omega arith)) in
-    let test = hp n (omega arith) in let term = hf n (omega arith) in rw (rest, test, term) refl
+sum_below-same n p q f g hp hf = sum_below-pointwise n p q f g hp (λ k l e. hf k l)
 
 -- one of the terms is at most their sum
 pub sum_below-term : (n : ℕ) (p : ℕ → Bool) (f : ℕ → ℕ) (k : ℕ) → k < n → p k ≡ true → f k ≤ sum_below n p f
@@ -271,3 +296,12 @@ IsFirstValue-from_first_below {A} (suc n) f v h = go (first_below n f) refl h (I
 
 pub first_below-from_IsFirstValue : {A : Type 0} (n : ℕ) (f : ℕ → Option A) (v : A) → IsFirstValue n f v → first_below n f ≡ Some v
 first_below-from_IsFirstValue n f v r = first_below-at n f r.0 v r.1 (first_below-none r.0 f r.3) r.2
+
+-- values of what is found are what is found by their values
+pub first_below-map : {A B : Type 0} (v : A → B) (n : ℕ) (f : ℕ → Option A) → first_below n (λ k. option_map v (f k)) ≡ option_map v (first_below n f)
+first_below-map {A} {B} v zero f = refl
+first_below-map {A} {B} v (suc n) f = rw (first_below-map v n f) (or_map (first_below n f) (f n))
+  where
+    or_map : (a b : Option A) → option_or (option_map v a) (option_map v b) ≡ option_map v (option_or a b)
+    or_map None b = refl
+    or_map (Some a) b = refl

@@ -3,3 +3,6 @@ pub mod Lists
 pub mod Range
 pub mod Walks
 pub mod Ends
+pub mod Sums
+pub mod Firsts
+pub mod Tuples

@@ -43,14 +43,14 @@ AllBelowIsEach =
     (n : ℕ) (p : ℕ → Bool) → (all_below n p ≡ true) ↔ ((k : ℕ) → k < n → p k ≡ true)
 
 -- the first value is that of the least number that has one
-abbrev pub FirstBelowIsLeast : Type 0
-FirstBelowIsLeast =
-    (n : ℕ) (f : ℕ → Option ℕ) (v : ℕ) → (first_below n f ≡ Some v) ↔ IsFirstValue n f v
+abbrev pub FirstBelowIsLeast : Type 0 → Type 0
+FirstBelowIsLeast A =
+    (n : ℕ) (f : ℕ → Option A) (v : A) → (first_below n f ≡ Some v) ↔ IsFirstValue n f v
 
 -- and there is none exactly where no number has one
-abbrev pub FirstBelowIsNone : Type 0
-FirstBelowIsNone =
-    (n : ℕ) (f : ℕ → Option ℕ) → (first_below n f ≡ None) ↔ ((k : ℕ) → k < n → f k ≡ None)
+abbrev pub FirstBelowIsNone : Type 0 → Type 0
+FirstBelowIsNone A =
+    (n : ℕ) (f : ℕ → Option A) → (first_below n f ≡ None) ↔ ((k : ℕ) → k < n → f k ≡ None)
 
 -- the count is the length of a list of the numbers that pass, each once
 abbrev pub CountBelowIsLength : Type 0

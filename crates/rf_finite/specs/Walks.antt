@@ -29,9 +29,9 @@ WalkBelowFindsWalks =
     (edge : ℕ → ℕ → Bool) (through : ℕ → Bool) (n a b : ℕ)
     → (walk_below edge through n a b ≡ true) ↔ IsReachable edge through n a b
 
--- no walk leads from a vertex back to it exactly where a rank falls along each edge
+-- there is no cycle exactly where a rank falls along each edge
 abbrev pub NoCycleIsRank : Type 0
 NoCycleIsRank =
     (edge : ℕ → ℕ → Bool) (n : ℕ)
-    → ((x : ℕ) → x < n → IsReachable edge (λ _. true) n x x → ⊥)
+    → HasNoCycle edge n
     ↔ ((rank : ℕ → ℕ) × ((x y : ℕ) → x < n → y < n → edge x y ≡ true → rank y < rank x))

@@ -1,2 +1,3 @@
 pub mod Marked
 pub mod Single
+pub mod Kept

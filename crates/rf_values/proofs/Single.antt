@@ -2,11 +2,12 @@
 use Rattle.std.proofs.Common.{◌≡◌, ◌↔◌, ℕ, ◌+◌, Bool, true, false, ◌&&◌, Option, Some, None, refl, inl, inr, arith}
 use Rattle.std.specs.Prelude.{◌==◌, nat_le}
 use Rattle.std.proofs.lemmas.Bool.{and_parts, and_from, leb-true, le-leb, eq-eqb, eqb-true, cases_lt}
-use Rattle.rf_values.specs.Count.{is_within, ends_at}
+use Rattle.rf_finite.specs.Ends.{within}
+use Rattle.rf_values.specs.Count.{ends_at}
 
 -- whether n is from lo to hi
 abbrev lies : ℕ → Option ℕ → ℕ → Bool
-lies lo hi n = nat_le lo n && is_within n hi
+lies lo hi n = nat_le lo n && within n hi
 
 abbrev is_one : ℕ → Option ℕ → Bool
 is_one lo hi = lo == 1 && ends_at 1 hi
@@ -17,7 +18,7 @@ one-from_single lo (Some m) h n =
     let parts = and_parts (lo == 1) (m == 1) h in
     let low : lo ≡ 1 = eqb-true lo 1 parts.0 in
     let high : m ≡ 1 = eqb-true m 1 parts.1 in (
-      λ l. (let within = and_parts (nat_le lo n) (nat_le n m) l in let above = leb-true lo n within.0 in let below = leb-true n m within.1 in omega arith),
+      λ l. (let both = and_parts (nat_le lo n) (nat_le n m) l in let above = leb-true lo n both.0 in let below = leb-true n m both.1 in omega arith),
       λ e. and_from (nat_le lo n) (nat_le n m) (le-leb lo n (omega arith)) (le-leb n m (omega arith)),
     )
 

@@ -1,5 +1,6 @@
 -- How many nodes there may be: a lower end, and an upper end where `None` means unbounded.
 use Rattle.std.specs.Prelude.{◌≡◌, ◌↔◌, ℕ, ◌+◌, ◌-◌, min, max, Bool, true, false, ◌&&◌, ◌==◌, nat_le, Option, Some, None}
+use Rattle.rf_finite.specs.Ends.{within}
 use Rattle.rf_values.specs.declared.count.Count.{Count}
 
 -- the lesser of two upper ends
@@ -13,11 +14,6 @@ abbrev pub end_less_one : Option ℕ → Option ℕ
 end_less_one None = None
 end_less_one (Some a) = Some (a - 1)
 
--- whether n is at most this upper end
-abbrev pub is_within : ℕ → Option ℕ → Bool
-is_within n None = true
-is_within n (Some a) = nat_le n a
-
 -- whether the upper end is n
 abbrev pub ends_at : ℕ → Option ℕ → Bool
 ends_at n None = false
@@ -29,7 +25,7 @@ meet a b = record { lo = max a.lo b.lo; hi = lesser_end a.hi b.hi }
 
 -- whether there may be n
 abbrev pub contains : Count → ℕ → Bool
-contains a n = nat_le a.lo n && is_within n a.hi
+contains a n = nat_le a.lo n && within n a.hi
 
 -- whether the count is 1 to 1
 abbrev pub is_single : Count → Bool
@@ -52,4 +48,4 @@ SingleIsOneToOne =
 -- where there may be one or more, less one contains how many there may be beside one
 abbrev pub LessOneContainsRest : Type 0
 LessOneContainsRest =
-    (a : Count) (n : ℕ) → is_within 1 a.hi ≡ true → contains (less_one a) n ≡ contains a (n + 1)
+    (a : Count) (n : ℕ) → within 1 a.hi ≡ true → contains (less_one a) n ≡ contains a (n + 1)

@@ -1,5 +1,5 @@
 -- What is known of a fact: their order from unknown up to error, and the pairs that they stand for.
-use Rattle.std.specs.Prelude.{◌≡◌, ◌↔◌, Bool, true, false, ◌&&◌, ◌||◌}
+use Rattle.std.specs.Prelude.{◌≡◌, ◌↔◌, Bool, true, false, ◌&&◌, ◌||◌, not}
 use Rattle.rf_values.specs.declared.truth.Truth.{Truth}
 use Rattle.rf_values.specs.declared.truth.Truth.TheVariants.{True, False, Unknown, Error}
 
@@ -39,6 +39,14 @@ truth_of true true = True
 truth_of false false = False
 truth_of false true = Unknown
 truth_of true false = Error
+
+-- whether a fact that holds, or doesn't, keeps what is known of it: true where it holds, false where it
+-- doesn't, unknown always, and error never
+abbrev pub keeps : Truth → Bool → Bool
+keeps True holds = holds
+keeps False holds = not holds
+keeps Unknown holds = true
+keeps Error holds = false
 
 -- each truth is below itself
 abbrev pub BelowIsReflexive : Type 0
@@ -90,3 +98,13 @@ TruthIsItsPair = (a : Truth) → truth_of (must a) (may a) ≡ a
 -- each pair is that of its truth
 abbrev pub PairIsItsTruth : Type 0
 PairIsItsTruth = (m n : Bool) → (must (truth_of m n) ≡ m) × (may (truth_of m n) ≡ n)
+
+-- the merged truth is kept exactly where both are
+abbrev pub MergeIsKeptWhereBothAre : Type 0
+MergeIsKeptWhereBothAre = (a b : Truth) (holds : Bool) → keeps (merge a b) holds ≡ (keeps a holds && keeps b holds)
+
+-- a truth is kept exactly where the fact holds if it has to, and can hold if it does
+abbrev pub KeptIsBetweenMustAndMay : Type 0
+KeptIsBetweenMustAndMay =
+    (a : Truth) (holds : Bool)
+    → (keeps a holds ≡ true) ↔ ((must a ≡ true → holds ≡ true) × (holds ≡ true → may a ≡ true))

@@ -4,6 +4,8 @@ ghost use Rattle.std.specs.Prelude.{◌≡◌};
 ghost use Rattle.rf_values.specs.Count.{lesser_end, meet, contains, is_single, less_one};
 ghost use Rattle.rf_values.specs.Count.{MeetContainsCommon, SingleIsOneToOne, LessOneContainsRest};
 
+use rf_finite::within;
+
 /// How many nodes there may be: at least `lo` and, where there is an upper end, at most `hi`.
 #[derive(Clone, Copy, Debug, PartialEq, Eq)]
 pub struct Count {
@@ -37,7 +39,7 @@ impl Count {
     pub fn contains(self, n: u64) -> bool
         ensures { result ≡ contains self n }
     {
-        self.lo <= n && self.hi.is_none_or(|end| n <= end)
+        self.lo <= n && within(n, self.hi)
     }
 
     /// Whether there is exactly one node, come what may.

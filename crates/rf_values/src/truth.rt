@@ -1,10 +1,11 @@
 //! What is known of a fact.
 
 ghost use Rattle.std.specs.Prelude.{◌≡◌};
-ghost use Rattle.rf_values.specs.Truth.{merge, must, may, below};
+ghost use Rattle.rf_values.specs.Truth.{merge, must, may, below, keeps};
 ghost use Rattle.rf_values.specs.Truth.{BelowIsReflexive, BelowIsAntisymmetric, BelowIsTransitive, UnknownIsLeast, ErrorIsGreatest};
 ghost use Rattle.rf_values.specs.Truth.{MergeIsLeastAbove, MergeIsAssociative, MergeIsCommutative, MergeIsIdempotent, UnknownIsNeutral, ErrorAbsorbs, MergeJoinsPairs};
 ghost use Rattle.rf_values.specs.Truth.{TruthIsItsPair, PairIsItsTruth};
+ghost use Rattle.rf_values.specs.Truth.{MergeIsKeptWhereBothAre, KeptIsBetweenMustAndMay};
 
 /// What is known of a fact. More may become known: then the truth goes up in the order that `below`
 /// tests, where `Unknown` is lowest and `Error`, that is true and false at once, is highest.
@@ -50,6 +51,18 @@ impl Truth {
     {
         self == other || self == Truth::Unknown || other == Truth::Error
     }
+
+    /// Whether a fact that holds, or doesn't, keeps what is known of it.
+    pub fn keeps(self, holds: bool) -> bool
+        ensures { result ≡ keeps self holds }
+    {
+        match self {
+            Truth::True => holds,
+            Truth::False => !holds,
+            Truth::Unknown => true,
+            Truth::Error => false,
+        }
+    }
 }
 
 /// The truths are ordered, from unknown up to error.
@@ -77,4 +90,11 @@ pub fn merge_law()
 pub fn pair_law()
     ensures truth { TruthIsItsPair }
     ensures pair { PairIsItsTruth }
+{}
+
+/// A fact keeps what is merged where it keeps both parts. It keeps a truth where it holds if it has
+/// to, and holds only if it can.
+pub fn keeps_law()
+    ensures merge { MergeIsKeptWhereBothAre }
+    ensures between { KeptIsBetweenMustAndMay }
 {}
