@@ -12,4 +12,5 @@ pub mod Lines
 pub mod Literals
 pub mod Meaning
 pub mod ProblemNames
+pub mod Satisfying
 pub mod Seen

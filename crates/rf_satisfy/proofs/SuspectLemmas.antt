@@ -12,7 +12,8 @@ use Rattle.rf_finite.proofs.Range.{first_below-at, first_below-none, one-from_so
 use Rattle.rf_values.specs.Truth.{merge}
 use Rattle.rf_values.specs.declared.truth.Truth.{Truth}
 use Rattle.rf_values.specs.declared.truth.Truth.TheVariants.{True, False, Unknown, Error}
-use Rattle.rf_problem.specs.Asserted.{default_values, is_default, is_literal_of, is_ordinary, match_each, matches, merge_all, merge_first, ordinary_values, speaks_of, unwritten, when}
+use Rattle.rf_problem.specs.Asserted.{default_values, is_default, is_literal_of, is_ordinary, match_each, matches, merge_first, ordinary_values, speaks_of, unwritten, when}
+use Rattle.rf_problem.specs.Merged.{merge_all}
 use Rattle.rf_problem.specs.Parts.{arity_of, object_at, predicate_at, same_symbol}
 use Rattle.rf_problem.specs.declared.assertion.Assertion.{Assertion}
 use Rattle.rf_problem.specs.declared.problem.Problem.{Problem}
