@@ -1,7 +1,7 @@
 -- The first violation of each kind, computed and in words.
-use Rattle.std.proofs.Common.{◌≡◌, ◌≢◌, ◌⊎◌, ℕ, ◌≤◌, ◌<◌, Bool, true, false, not, ◌&&◌, ◌||◌, ◌==◌, nat_le, Option, Some, None, List, [], ◌∷◌, ◌++◌, length, map, All, append-nil, refl, sym, subst, inl, inr, true≢false}
+use Rattle.std.proofs.Common.{◌≡◌, ◌⊎◌, ℕ, ◌≤◌, ◌<◌, Bool, true, false, not, ◌&&◌, ◌||◌, ◌==◌, nat_le, Option, Some, None, List, [], ◌∷◌, ◌++◌, length, map, All, append-nil, refl, sym, subst, inl, inr, true≢false}
 use Rattle.std.specs.Option.{option_or}
-use Rattle.std.proofs.lemmas.Bool.{and_parts, and_from, or_cases, or_left, or_right, or_from, or_parts, both_ways, not-true, not-false, not_from_false, not_from_true, false_from_ne_true, leb-true, le-leb, ltb-true, lt-ltb, eqb-true, eq-eqb, eqb-false, ne_eqb}
+use Rattle.std.proofs.lemmas.Bool.{and_parts, and_from, or_cases, or_left, or_right, or_from, or_parts, both_ways, not-true, not-false, not_from_false, not_from_true, false_from_ne_true, leb-true, le-leb, ltb-true, lt-ltb, eqb-true, eq-eqb}
 use Rattle.std.proofs.lemmas.List.Elements.{All-contains}
 use Rattle.rf_finite.specs.Range.{count_below, first_below}
 use Rattle.rf_finite.specs.Walks.{walk_below}
@@ -67,7 +67,7 @@ module _ (p : Problem) (g : Graph) where
       (λ v s. (s.0, s.2.node, (s.1, s.2.abstract_class)))
 
   -- edges of a graph that fits lead between its nodes, by references that are there
-  edge-fits : Fits p g → (r x y : ℕ) → HasEdge g r x y → FitsEdge p (size_of g) (record { reference = r; from = x; to = y })
+  pub edge-fits : Fits p g → (r x y : ℕ) → HasEdge g r x y → FitsEdge p (size_of g) (record { reference = r; from = x; to = y })
   edge-fits fits r x y h = All-contains (FitsEdge p (length g.nodes)) g.edges (record { reference = r; from = x; to = y }) fits.edges h
 
   -- misplaced edges
@@ -202,13 +202,13 @@ module _ (p : Problem) (g : Graph) where
   abbrev pub Unsatisfied : Violation → Type 0
   Unsatisfied v = (o : ℕ) × (v ≡ Object o) × IsUnsatisfied p g o
 
-  MayHaveClass-from_test : (name : ObjectName) (kind : ObjectKind) (c : ℕ) → may_have_class p.classes name kind c ≡ true → MayHaveClass p.classes name kind c
+  pub MayHaveClass-from_test : (name : ObjectName) (kind : ObjectKind) (c : ℕ) → may_have_class p.classes name kind c ≡ true → MayHaveClass p.classes name kind c
   MayHaveClass-from_test (NewOf k) kind c h = eqb-true c k h
   MayHaveClass-from_test (Named name) (LiteralOf e) c h = eqb-true c e h
   MayHaveClass-from_test (Named name) Plain c h = not-true (class_at p.classes c).is_enum h
   MayHaveClass-from_test (Named name) Atom c h = not-true (class_at p.classes c).is_enum h
 
-  test-from_MayHaveClass : (name : ObjectName) (kind : ObjectKind) (c : ℕ) → MayHaveClass p.classes name kind c → may_have_class p.classes name kind c ≡ true
+  pub test-from_MayHaveClass : (name : ObjectName) (kind : ObjectKind) (c : ℕ) → MayHaveClass p.classes name kind c → may_have_class p.classes name kind c ≡ true
   test-from_MayHaveClass (NewOf k) kind c h = eq-eqb c k h
   test-from_MayHaveClass (Named name) (LiteralOf e) c h = eq-eqb c e h
   test-from_MayHaveClass (Named name) Plain c h = not_from_false (class_at p.classes c).is_enum h
@@ -288,7 +288,7 @@ module _ (p : Problem) (g : Graph) where
   abbrev pub is_broken : Symbol → List ℕ → Bool
   is_broken symbol t = breaks (asserted p symbol (map (origin_of g) t)) (holds p g symbol t)
 
-  IsBroken-from_test : (symbol : Symbol) (t : List ℕ) → is_declared (length p.classes) (length p.references) (length p.predicates) symbol ≡ true
+  pub IsBroken-from_test : (symbol : Symbol) (t : List ℕ) → is_declared (length p.classes) (length p.references) (length p.predicates) symbol ≡ true
       → length t ≡ arity_of p.predicates symbol → All (λ x. x < size_of g) t → is_broken symbol t ≡ true → IsBroken p g symbol t
   IsBroken-from_test symbol t d e all h = record {
     declared = d;
@@ -298,7 +298,7 @@ module _ (p : Problem) (g : Graph) where
         (Holds-from_holds p g symbol t e) (holds-from_Holds p g symbol t e) h;
   }
 
-  test-from_IsBroken : (symbol : Symbol) (t : List ℕ) → IsBroken p g symbol t → is_broken symbol t ≡ true
+  pub test-from_IsBroken : (symbol : Symbol) (t : List ℕ) → IsBroken p g symbol t → is_broken symbol t ≡ true
   test-from_IsBroken symbol t b = test-from_Breaks (asserted p symbol (map (origin_of g) t)) (holds p g symbol t) (Holds p g symbol t)
       (Holds-from_holds p g symbol t b.arity) (holds-from_Holds p g symbol t b.arity) b.breaks
 

@@ -9,4 +9,5 @@ pub mod Index
 pub mod Lines
 pub mod Meaning
 pub mod ProblemNames
+pub mod Satisfying
 pub mod Seen

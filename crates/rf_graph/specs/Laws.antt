@@ -8,6 +8,7 @@ use Rattle.rf_graph.specs.First.{first_violation}
 use Rattle.rf_graph.specs.Graph.{Fits}
 use Rattle.rf_problem.specs.Holds.{Meaning}
 use Rattle.rf_graph.specs.Holds.{Holds, IsMeaning}
+use Rattle.rf_graph.specs.Satisfied.{Satisfies}
 use Rattle.rf_graph.specs.Violations.{FirstViolation, Sat}
 use Rattle.rf_graph.specs.declared.graph.Graph.{Graph}
 use Rattle.rf_graph.specs.declared.verdict.Violation.{Violation}
@@ -36,3 +37,7 @@ FirstViolationIsComputed =
 -- and none is exactly where the graph satisfies the problem
 abbrev pub NoneIsComputedWhereSat : Type 0
 NoneIsComputedWhereSat = (p : Problem) (g : Graph) → Fits p g → (first_violation p g ≡ None) ↔ Sat p g
+
+-- a graph that fits satisfies the problem exactly where what is to hold of each kind does
+abbrev pub SatIsSatisfies : Type 0
+SatIsSatisfies = (p : Problem) (g : Graph) → Fits p g → Sat p g ↔ Satisfies p g

@@ -6,6 +6,7 @@ pub mod Document
 pub mod BadLine
 pub mod Evaluate
 pub mod First
+pub mod Satisfied
 pub mod Laws
 -- what only the contracts of private functions cite, and lemmas
 pub mod Names

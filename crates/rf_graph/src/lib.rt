@@ -11,7 +11,7 @@ mod read;
 mod verdict;
 
 pub use graph::{Edge, Graph, Node};
-pub use laws::{first_violation_law, holds_law};
+pub use laws::{first_violation_law, holds_law, satisfied_law};
 pub use print::{print_graph, push_class, push_object, push_reference, push_symbol};
 pub use read::{GraphError, read_graph};
 pub use verdict::{Verdict, Violation};

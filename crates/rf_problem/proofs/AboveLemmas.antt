@@ -58,15 +58,6 @@ module _ (classes : List Class) where
     pub sound : AreSound classes old → AreSound classes now
     pub settled : grew ≡ false → AreWithin now old
 
-  pub IsRaised-none : (rows : List (FinSet nat_cmp)) → length rows ≡ length classes → IsRaised rows rows 0 false
-  IsRaised-none rows same = record {
-    same_length = same;
-    kept = λ c d has. has;
-    through = λ c s d l e has. absurd (omega arith);
-    sound = λ sound. sound;
-    settled = λ _ c d has. has;
-  }
-
   -- the row of class i, with those of the classes that it extends
   abbrev pub IsJoined : List (FinSet nat_cmp) → ℕ → FinSet nat_cmp → Type 0
   IsJoined rows i joined =

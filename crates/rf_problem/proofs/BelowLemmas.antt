@@ -1,10 +1,10 @@
 -- Classes below others.
 use Rattle.std.proofs.Common.{not, take, get_or, ◌≡◌, ◌∙◌, ℕ, ◌+◌, ◌≤◌, ◌<◌, Bool, true, false, ◌&&◌, ◌||◌, List, [], ◌∷◌, length, refl, sym, ap, subst, inl, inr, arith, true≢false}
-use Rattle.std.specs.Prelude.{◌==◌, ◌↔◌, nat_lt}
+use Rattle.std.specs.Prelude.{◌==◌, ◌↔◌}
 use Rattle.std.specs.FinSet.{FinSet, contains}
 use Rattle.std.specs.List.{list_any}
 use Rattle.std.specs.Ordering.{nat_cmp}
-use Rattle.std.proofs.lemmas.Bool.{and_from, and_parts, cases_Bool, cases_eq, cases_lt, eq-eqb, eqb-true, or_cases, or_left, or_right, ne_eqb, lt-ltb, le-ltb}
+use Rattle.std.proofs.lemmas.Bool.{and_from, and_parts, cases_Bool, cases_eq, cases_lt, eq-eqb, eqb-true, or_cases, or_left, or_right}
 use Rattle.std.proofs.Math.Seq.{take-length}
 use Rattle.std.proofs.lemmas.List.{get_or_past}
 use Rattle.std.proofs.lemmas.List.Folds.{list_any_more}
@@ -241,26 +241,3 @@ pub is_content-all :
     (xs rs : List Reference) (i : ℕ) (s : FinSet nat_cmp) → xs ≡ rs → i ≡ length xs → ((d : ℕ) → contains s d ≡ is_content (take i xs) d) →
     (d : ℕ) → contains s d ≡ is_content rs d
 is_content-all xs rs i s same all h d = h d ∙ ap (λ ys. is_content ys d) (ap (λ k. take k xs) all ∙ take-length xs ∙ same)
-
--- those below i + 1 that pass are those below i and, where it passes, i
-pub selected-more :
-    (q : ℕ → Bool) (i j d : ℕ) (old now : Bool) → old ≡ (nat_lt d i && q d) → (q i ≡ true → now ≡ (d == i || old)) → (q i ≡ false → now ≡ old) →
-    j ≡ i + 1 → now ≡ (nat_lt d j && q d)
-selected-more q i j d old now before add skip next = elim (cases_eq d i) [
-  | inl same ↦ elim (cases_Bool (q i)) [
-    | inl t ↦ (let here : nat_lt d j ≡ true = lt-ltb d j (omega arith) in
-        let passes : q d ≡ true = subst (λ x. q x ≡ true) (sym same) t in
-        add t ∙ or_left (d == i) old (eq-eqb d i same) ∙ sym (and_from (nat_lt d j) (q d) here passes))
-    | inr f ↦ (let fails : q d ≡ false = subst (λ x. q x ≡ false) (sym same) f in skip f ∙ before ∙ rw fails (and-false (nat_lt d i) ∙ sym (and-false (nat_lt d j))))
-  ]
-  | inr other ↦ (let same_test : nat_lt d i ≡ nat_lt d j = elim (cases_lt d i) [
-    | inl l ↦ lt-ltb d i l ∙ sym (lt-ltb d j (omega arith))
-    | inr g ↦ le-ltb d i g ∙ sym (le-ltb d j (omega arith))
-  ] in
-      let kept : now ≡ old = elim (cases_Bool (q i)) [ inl t ↦ add t ∙ ap (λ b. b || old) (ne_eqb d i other) | inr f ↦ skip f ] in
-      kept ∙ before ∙ ap (λ b. b && q d) same_test)
-]
-  where
-    and-false : (b : Bool) → (b && false) ≡ false
-    and-false true = refl
-    and-false false = refl

@@ -1,9 +1,9 @@
 -- What is left once all is taken away again and again that has no edge into the rest.
 use Rattle.std.proofs.Common.{◌≡◌, ◌∙◌, ℕ, ◌+◌, ◌≤◌, ◌<◌, Bool, true, false, ◌&&◌, [], ◌∷◌, not, refl, sym, ap, inl, inr, arith}
-use Rattle.std.specs.Prelude.{◌==◌, nat_lt}
+use Rattle.std.specs.Prelude.{◌==◌}
 use Rattle.std.specs.FinSet.{FinSet, contains}
 use Rattle.std.specs.Ordering.{nat_cmp}
-use Rattle.std.proofs.lemmas.Bool.{and_parts, and_from, and_right, both_ways, cases_Bool, cases_eq, eq-eqb, lt-ltb, ltb-true, ne_eqb, not_from_false}
+use Rattle.std.proofs.lemmas.Bool.{and_parts, and_from, and_right, both_ways, cases_Bool, cases_eq, eq-eqb, ne_eqb, not_from_false}
 use Rattle.rf_finite.specs.Range.{count_below}
 use Rattle.rf_finite.specs.Walks.{HasNoCycle, IsReachable, walk_below}
 use Rattle.rf_finite.proofs.Range.{count_below-le_bound}
@@ -31,13 +31,6 @@ module _ (edge : ℕ → ℕ → Bool) (n : ℕ) where
     pub kept : (x : ℕ) → contains rest x ≡ true → contains left x ≡ true
     pub led : (x : ℕ) → x < i → contains rest x ≡ true → LeadsInto edge x left
     pub off : AreOffCycles edge n left → AreOffCycles edge n rest
-
-  pub IsPeeled-none : (left : FinSet nat_cmp) → IsPeeled left left 0
-  IsPeeled-none left = record {
-    kept = λ x has. has;
-    led = λ x l has. absurd (omega arith);
-    off = λ off. off;
-  }
 
   -- a number with an edge into the rest stays
   pub IsPeeled-stay : (left rest : FinSet nat_cmp) (i j : ℕ) → IsPeeled left rest i → LeadsInto edge i rest → j ≡ i + 1 → IsPeeled left rest j
@@ -103,10 +96,3 @@ module _ (edge : ℕ → ℕ → Bool) (n : ℕ) where
 
   pub no_cycle-from_none : (left : FinSet nat_cmp) → AreOffCycles edge n left → ((x : ℕ) → contains left x ≡ false) → HasNoCycle edge n
   no_cycle-from_none left off none x l = off x l (none x)
-
-  -- all numbers are left at first
-  pub IsWithin-all : (all : FinSet nat_cmp) → ((x : ℕ) → contains all x ≡ nat_lt x n) → IsWithin all n
-  IsWithin-all all members x has = ltb-true x n (sym (members x) ∙ has)
-
-  pub AreOffCycles-all : (all : FinSet nat_cmp) → ((x : ℕ) → contains all x ≡ nat_lt x n) → AreOffCycles edge n all
-  AreOffCycles-all all members x l gone = absurd (both_ways (contains all x) gone (members x ∙ lt-ltb x n l))

@@ -3,25 +3,28 @@ use Rattle.std.proofs.Common.{◌≡◌, ℕ, suc, ◌+◌, ◌-◌, ◌<◌, �
 use Rattle.std.specs.Prelude.{filter}
 use Rattle.std.specs.List.{list_any}
 use Rattle.std.specs.Option.{is_some, option_map}
-use Rattle.std.proofs.lemmas.Bool.{cases_Bool, cases_order, and_parts, and_from, or_cases, or_left, or_right, both_ways, eqb-true, false_from_ne_true}
+use Rattle.std.specs.Cmp.{both_ways as same_tests}
+use Rattle.std.proofs.lemmas.Bool.{cases_Bool, cases_order, and_parts, and_from, or_cases, or_left, or_right, both_ways, eq-eqb, eqb-true, false_from_ne_true}
 use Rattle.std.proofs.lemmas.List.{get_or_default, length-map, take_all}
 use Rattle.std.proofs.lemmas.List.Folds.{Any-from_list_any, list_any-append, list_any_more}
 use Rattle.rf_finite.specs.Range.{first_below}
-use Rattle.rf_finite.proofs.Range.{first_below-at, first_below-none}
+use Rattle.rf_finite.proofs.Range.{first_below-at, first_below-none, one-from_some_below, some_below-from_one}
 use Rattle.rf_values.specs.Truth.{merge}
 use Rattle.rf_values.specs.declared.truth.Truth.{Truth}
 use Rattle.rf_values.specs.declared.truth.Truth.TheVariants.{True, False, Unknown, Error}
-use Rattle.rf_problem.specs.Asserted.{default_values, is_default, is_error, is_ordinary, match_each, matches, merge_all, merge_first, ordinary_values, speaks_of}
-use Rattle.rf_problem.specs.Parts.{arity_of, same_symbol}
+use Rattle.rf_problem.specs.Asserted.{default_values, is_default, is_literal_of, is_ordinary, match_each, matches, merge_first, ordinary_values, speaks_of, unwritten, when}
+use Rattle.rf_problem.specs.Merged.{merge_all}
+use Rattle.rf_problem.specs.Parts.{arity_of, object_at, predicate_at, same_symbol}
 use Rattle.rf_problem.specs.declared.assertion.Assertion.{Assertion}
 use Rattle.rf_problem.specs.declared.problem.Problem.{Problem}
 use Rattle.rf_problem.specs.declared.symbol.Symbol.{Symbol}
+use Rattle.rf_problem.specs.declared.symbol.Symbol.TheVariants.{Class, Predicate}
 use Rattle.rf_graph.specs.Evaluate.{holds}
 use Rattle.rf_graph.specs.First.{breaks, first_broken}
 use Rattle.rf_graph.specs.Graph.{origin_of, size_of}
 use Rattle.rf_graph.specs.declared.graph.Graph.{Graph}
 use Rattle.rf_graph.specs.declared.verdict.Violation.TheVariants.{Asserted}
-use Rattle.rf_satisfy.specs.Suspects.{is_broken, is_error_at, is_suspect, is_suspect_by}
+use Rattle.rf_satisfy.specs.Suspects.{is_broken, is_stray_among, is_suspect, is_suspect_by, is_unwritten_at}
 use Rattle.rf_satisfy.specs.Tuples.{ArePassing, IsFirst, IsTuple, earlier, first_passing}
 use Rattle.rf_satisfy.proofs.TupleLemmas.{IsFirst-earlier, IsFirst-same, first_passing-from_IsFirst, first_passing-none, first_tuple-is}
 
@@ -122,7 +125,7 @@ list_any-weaker p q (x ∷ xs) w e = elim (or_cases (p x) (list_any p xs) e) [
   | inr r ↦ or_right (q x) (list_any q xs) (list_any-weaker p q xs w r)
 ]
 
--- what isn't satisfied altogether is so at some assertion, or at an error predicate
+-- what isn't satisfied altogether is so at some assertion, written or not
 module _ (p : Problem) (g : Graph) (s : Symbol) (t : List ℕ) where
   abbrev objects : List ℕ
   objects = map (origin_of g) t
@@ -144,31 +147,27 @@ module _ (p : Problem) (g : Graph) (s : Symbol) (t : List ℕ) where
   by_first (o ∷ os) ds e = or_left (list_any (λ v. breaks v now) (o ∷ os)) (list_any (λ v. breaks v now) ds) (breaks-merge_all (o ∷ os) now e)
 
   abbrev pub found : Bool
-  found = is_error_at p g s t || list_any (is_suspect_by p g s t) p.assertions
+  found = is_unwritten_at p g s t || list_any (is_suspect_by p g s t) p.assertions
 
   from_spoken : is_broken p g s t ≡ true → list_any spoken p.assertions ≡ true → found ≡ true
-  from_spoken b e = or_right (is_error_at p g s t) (list_any (is_suspect_by p g s t) p.assertions) (list_any-weaker spoken (is_suspect_by p g s t) p.assertions (λ a h.
+  from_spoken b e = or_right (is_unwritten_at p g s t) (list_any (is_suspect_by p g s t) p.assertions) (list_any-weaker spoken (is_suspect_by p g s t) p.assertions (λ a h.
       let one = and_parts (same_symbol a.symbol s && match_each a.args objects) (breaks a.value now) h in
       let two = and_parts (same_symbol a.symbol s) (match_each a.args objects) one.0 in
       and_from (same_symbol a.symbol s) (is_suspect p g s a.args a.value t) two.0
       (and_from (match_each a.args objects) (breaks a.value now && is_broken p g s t) two.1 (and_from (breaks a.value now) (is_broken p g s t) one.1 b))) e)
 
-  from_error : is_broken p g s t ≡ true → list_any (λ v. breaks v now) (cond (is_error p.predicates s) (False ∷ []) []) ≡ true → found ≡ true
-  from_error b e = elim (cases_Bool (is_error p.predicates s)) [
-    | inl k ↦ (let h : (breaks False now || false) ≡ true = rw k at e in elim (or_cases (breaks False now) false h) [
-      | inl f ↦ or_left (is_error_at p g s t) (list_any (is_suspect_by p g s t) p.assertions)
-          (and_from (is_error p.predicates s) (breaks False now && is_broken p g s t) k (and_from (breaks False now) (is_broken p g s t) f b))
-      | inr f ↦ absurd (true≢false (sym f))
-    ])
-    | inr k ↦ absurd (let q : false ≡ true = rw k at e in true≢false (sym q))
-  ]
+  abbrev says_unwritten : Bool
+  says_unwritten = list_any (λ v. breaks v now) (unwritten p s objects)
+
+  from_unwritten : is_broken p g s t ≡ true → says_unwritten ≡ true → found ≡ true
+  from_unwritten b e = or_left (is_unwritten_at p g s t) (list_any (is_suspect_by p g s t) p.assertions) (and_from says_unwritten (is_broken p g s t) e b)
 
   broken-found : is_broken p g s t ≡ true → found ≡ true
   broken-found b = elim (or_cases (list_any (λ v. breaks v now) (ordinary_values p s objects)) (list_any (λ v. breaks v now) (default_values p s objects)) (by_first (ordinary_values p s objects) (default_values p s objects) b)) [
-    | inl o ↦ elim (or_cases (list_any (λ v. breaks v now) (map (λ a. a.value) (filter (is_ordinary s objects) p.assertions))) (list_any (λ v. breaks v now) (cond (is_error p.predicates s) (False ∷ []) []))
-        (sym (list_any-append (λ v. breaks v now) (map (λ a. a.value) (filter (is_ordinary s objects) p.assertions)) (cond (is_error p.predicates s) (False ∷ []) [])) ∙ o)) [
+    | inl o ↦ elim (or_cases (list_any (λ v. breaks v now) (map (λ a. a.value) (filter (is_ordinary s objects) p.assertions))) says_unwritten
+        (sym (list_any-append (λ v. breaks v now) (map (λ a. a.value) (filter (is_ordinary s objects) p.assertions)) (unwritten p s objects)) ∙ o)) [
           | inl h ↦ from_spoken b (list_any-weaker (λ a. is_ordinary s objects a && breaks a.value now) spoken p.assertions ordinary-spoken (breaks-kept (is_ordinary s objects) now p.assertions h))
-          | inr h ↦ from_error b h
+          | inr h ↦ from_unwritten b h
         ]
     | inr d ↦ from_spoken b (list_any-weaker (λ a. is_default s objects a && breaks a.value now) spoken p.assertions default-spoken (breaks-kept (is_default s objects) now p.assertions d))
   ]
@@ -183,8 +182,8 @@ module _ (p : Problem) (g : Graph) (s : Symbol) (t : List ℕ) where
   ]
 
   found-broken : found ≡ true → is_broken p g s t ≡ true
-  found-broken e = elim (or_cases (is_error_at p g s t) (list_any (is_suspect_by p g s t) p.assertions) e) [
-    | inl h ↦ (let one = and_parts (is_error p.predicates s) (breaks False now && is_broken p g s t) h in (and_parts (breaks False now) (is_broken p g s t) one.1).1)
+  found-broken e = elim (or_cases (is_unwritten_at p g s t) (list_any (is_suspect_by p g s t) p.assertions) e) [
+    | inl h ↦ (and_parts says_unwritten (is_broken p g s t) h).1
     | inr r ↦ suspect-broken p.assertions r
   ]
 
@@ -257,14 +256,92 @@ stars (a ∷ b ∷ c ∷ []) l = refl
 stars (a ∷ b ∷ c ∷ d ∷ []) l = refl
 stars (a ∷ b ∷ c ∷ d ∷ e ∷ t) l = absurd (omega arith)
 
+or-false : (b : Bool) → (b || false) ≡ b
+or-false true = refl
+or-false false = refl
+
 -- an error predicate is one that is stated to be false everywhere
-pub error_is_suspect : (p : Problem) (g : Graph) (s : Symbol) (m : ℕ) → m ≤ 4 → is_error p.predicates s ≡ true
-    → (t : List ℕ) → IsTuple (size_of g) m t → is_suspect p g s (take m (None ∷ None ∷ None ∷ None ∷ [])) False t ≡ is_error_at p g s t
-error_is_suspect p g s m l e t h =
+pub error_is_suspect : (p : Problem) (g : Graph) (q m : ℕ) → m ≤ 4 → (predicate_at p.predicates q).is_error ≡ true
+    → (t : List ℕ) → IsTuple (size_of g) m t → is_suspect p g (Predicate q) (take m (None ∷ None ∷ None ∷ None ∷ [])) False t ≡ is_unwritten_at p g (Predicate q) t
+error_is_suspect p g q m l e t h =
     let len : length (map (origin_of g) t) ≡ m = length-map t (origin_of g) ∙ h.len in
     let any = stars (map (origin_of g) t) (omega arith) in
     let star : match_each (take m (None ∷ None ∷ None ∷ None ∷ [])) (map (origin_of g) t) ≡ true = rw len at any in
-    rw (star, e) refl
+    rw (star, e, or-false (holds p g (Predicate q) t)) refl
+
+pub no_error : (p : Problem) (g : Graph) (q : ℕ) → (predicate_at p.predicates q).is_error ≡ false → (t : List ℕ) → is_unwritten_at p g (Predicate q) t ≡ false
+no_error p g q e t = rw e refl
+
+when-breaks : (b held : Bool) → list_any (λ v. breaks v held) (when b True) ≡ (b && not held)
+when-breaks true held = or-false (not held)
+when-breaks false held = refl
+
+-- a literal is stated to have its enum's class
+module _ (p : Problem) (g : Graph) (c : ℕ) where
+  abbrev is_literal : ℕ → Bool
+  is_literal o = is_literal_of (object_at p.objects o).kind c
+
+  -- whether what is asserted of the class isn't satisfied at a node of this literal
+  abbrev is_stray : ℕ → List ℕ → Bool
+  is_stray o t = is_literal o && is_suspect p g (Class c) (Some o ∷ []) True t
+
+  module _ (x : ℕ) (from : origin_of g x < length p.objects) where
+    abbrev own : ℕ
+    own = origin_of g x
+
+    abbrev lacks : Bool
+    lacks = not (holds p g (Class c) (x ∷ []))
+
+    abbrev fails : Bool
+    fails = is_broken p g (Class c) (x ∷ [])
+
+    -- what is asserted unwritten breaks at a literal's node that lacks the class
+    abbrev breaks_unwritten : Bool
+    breaks_unwritten = list_any (λ v. breaks v (holds p g (Class c) (x ∷ []))) (unwritten p (Class c) (own ∷ []))
+
+    breaks_unwritten-is : breaks_unwritten ≡ (is_literal own && lacks)
+    breaks_unwritten-is = when-breaks (is_literal own) (holds p g (Class c) (x ∷ []))
+
+    stray-unwritten : is_stray_among p g c (length p.objects) (x ∷ []) ≡ true → is_unwritten_at p g (Class c) (x ∷ []) ≡ true
+    stray-unwritten h =
+        let one = one-from_some_below (length p.objects) (λ o. is_stray o (x ∷ [])) h in
+        let first = and_parts (is_literal one.0) (is_suspect p g (Class c) (Some one.0 ∷ []) True (x ∷ [])) one.2 in
+        let second = and_parts (eqb one.0 own && true) (lacks && fails) first.1 in
+        let third = and_parts lacks fails second.1 in
+        let same = eqb-true one.0 own (and_parts (eqb one.0 own) true second.0).0 in
+        and_from breaks_unwritten fails (breaks_unwritten-is ∙ and_from (is_literal own) lacks (subst (λ (o : ℕ). is_literal o ≡ true) same first.0) third.0) third.1
+
+    unwritten-stray : is_unwritten_at p g (Class c) (x ∷ []) ≡ true → is_stray_among p g c (length p.objects) (x ∷ []) ≡ true
+    unwritten-stray h =
+        let first = and_parts breaks_unwritten fails h in
+        let second = and_parts (is_literal own) lacks (sym breaks_unwritten-is ∙ first.0) in
+        some_below-from_one (length p.objects) (λ o. is_stray o (x ∷ [])) own from
+        (and_from (is_literal own) (is_suspect p g (Class c) (Some own ∷ []) True (x ∷ [])) second.0
+        (and_from (eqb own own && true) (lacks && fails) (and_from (eqb own own) true (eq-eqb own own refl) refl) (and_from lacks fails second.1 first.1)))
+
+  -- so what isn't satisfied at some literal's node is what is asserted there unwritten
+  strays : ((x : ℕ) → x < size_of g → origin_of g x < length p.objects) → (t : List ℕ) → IsTuple (size_of g) 1 t → is_stray_among p g c (length p.objects) t ≡ is_unwritten_at p g (Class c) t
+  strays from [] h = absurd (let l = h.len in omega arith)
+  strays from (x ∷ []) h =
+      let own = from x (h.nodes 0 0 (omega arith)) in
+      same_tests (is_stray_among p g c (length p.objects) (x ∷ [])) (is_unwritten_at p g (Class c) (x ∷ [])) (stray-unwritten x own) (unwritten-stray x own)
+  strays from (x ∷ y ∷ t) h = absurd (let l = h.len in omega arith)
+
+  -- a loop through the objects
+  module _ (o : ℕ) (first : Option (List ℕ)) (so_far : IsFirst (size_of g) 1 (is_stray_among p g c o) first) where
+    pub strays-more : (other : Option (List ℕ)) → is_literal o ≡ true → IsFirst (size_of g) 1 (is_suspect p g (Class c) (Some o ∷ []) True) other
+        → IsFirst (size_of g) 1 (is_stray_among p g c (o + 1)) (earlier first other)
+    strays-more other own h = IsFirst-same (size_of g) 1 (λ t. is_stray_among p g c o t || is_suspect p g (Class c) (Some o ∷ []) True t) (is_stray_among p g c (o + 1)) (earlier first other)
+        (λ t u. rw (add-one, own) refl)
+        (IsFirst-earlier (size_of g) 1 (is_stray_among p g c o) (is_suspect p g (Class c) (Some o ∷ []) True) first other so_far h)
+
+    pub strays-same : is_literal o ≡ false → IsFirst (size_of g) 1 (is_stray_among p g c (o + 1)) first
+    strays-same other = IsFirst-same (size_of g) 1 (is_stray_among p g c o) (is_stray_among p g c (o + 1)) first (λ t u. rw (add-one, other, or-false (is_stray_among p g c o t)) refl) so_far
+
+  pub strays-ended : (n i : ℕ) (first : Option (List ℕ)) → n ≡ length p.objects → ((x : ℕ) → x < size_of g → origin_of g x < n) → i ≡ n
+      → IsFirst (size_of g) 1 (is_stray_among p g c i) first → IsFirst (size_of g) 1 (is_unwritten_at p g (Class c)) first
+  strays-ended n i first count from all h = IsFirst-same (size_of g) 1 (is_stray_among p g c i) (is_unwritten_at p g (Class c)) first
+      (λ t u. ap (λ (k : ℕ). is_stray_among p g c k t) (all ∙ count) ∙ strays (λ x l. subst (λ (k : ℕ). origin_of g x < k) count (from x l)) t u) h
 
 or-assoc : (a b c : Bool) → ((a || b) || c) ≡ (a || (b || c))
 or-assoc true b c = refl
@@ -272,30 +349,26 @@ or-assoc false b c = refl
 
 -- a loop through the assertions
 module _ (p : Problem) (g : Graph) (s : Symbol) (n m : ℕ) (items : List Assertion) (i : ℕ) (a : Assertion) (first : Option (List ℕ))
-    (l : i < length items) (at : a ≡ get_or items i a) (so_far : IsFirst n m (λ t. is_error_at p g s t || list_any (is_suspect_by p g s t) (take i items)) first) where
+    (l : i < length items) (at : a ≡ get_or items i a) (so_far : IsFirst n m (λ t. is_unwritten_at p g s t || list_any (is_suspect_by p g s t) (take i items)) first) where
   one_more_of : (t : List ℕ) → list_any (is_suspect_by p g s t) (take (i + 1) items) ≡ (list_any (is_suspect_by p g s t) (take i items) || is_suspect_by p g s t a)
   one_more_of t = list_any_more (is_suspect_by p g s t) items i a l ∙ ap (λ (b : Assertion). list_any (is_suspect_by p g s t) (take i items) || is_suspect_by p g s t b) (sym at)
 
   pub suspects-more : (other : Option (List ℕ)) → same_symbol a.symbol s ≡ true → IsFirst n m (is_suspect p g s a.args a.value) other
-      → IsFirst n m (λ t. is_error_at p g s t || list_any (is_suspect_by p g s t) (take (i + 1) items)) (earlier first other)
-  suspects-more other same h = IsFirst-same n m (λ t. (is_error_at p g s t || list_any (is_suspect_by p g s t) (take i items)) || is_suspect p g s a.args a.value t)
-      (λ t. is_error_at p g s t || list_any (is_suspect_by p g s t) (take (i + 1) items)) (earlier first other)
-      (λ t u. or-assoc (is_error_at p g s t) (list_any (is_suspect_by p g s t) (take i items)) (is_suspect p g s a.args a.value t)
-      ∙ ap (λ (b : Bool). is_error_at p g s t || b) (sym (one_more_of t ∙ (let e : is_suspect_by p g s t a ≡ is_suspect p g s a.args a.value t = rw same refl in rw e refl))))
-      (IsFirst-earlier n m (λ t. is_error_at p g s t || list_any (is_suspect_by p g s t) (take i items)) (is_suspect p g s a.args a.value) first other so_far h)
+      → IsFirst n m (λ t. is_unwritten_at p g s t || list_any (is_suspect_by p g s t) (take (i + 1) items)) (earlier first other)
+  suspects-more other same h = IsFirst-same n m (λ t. (is_unwritten_at p g s t || list_any (is_suspect_by p g s t) (take i items)) || is_suspect p g s a.args a.value t)
+      (λ t. is_unwritten_at p g s t || list_any (is_suspect_by p g s t) (take (i + 1) items)) (earlier first other)
+      (λ t u. or-assoc (is_unwritten_at p g s t) (list_any (is_suspect_by p g s t) (take i items)) (is_suspect p g s a.args a.value t)
+      ∙ ap (λ (b : Bool). is_unwritten_at p g s t || b) (sym (one_more_of t ∙ (let e : is_suspect_by p g s t a ≡ is_suspect p g s a.args a.value t = rw same refl in rw e refl))))
+      (IsFirst-earlier n m (λ t. is_unwritten_at p g s t || list_any (is_suspect_by p g s t) (take i items)) (is_suspect p g s a.args a.value) first other so_far h)
 
-  pub suspects-same : same_symbol a.symbol s ≡ false → IsFirst n m (λ t. is_error_at p g s t || list_any (is_suspect_by p g s t) (take (i + 1) items)) first
-  suspects-same other = IsFirst-same n m (λ t. is_error_at p g s t || list_any (is_suspect_by p g s t) (take i items))
-      (λ t. is_error_at p g s t || list_any (is_suspect_by p g s t) (take (i + 1) items)) first
-      (λ t u. ap (λ (b : Bool). is_error_at p g s t || b) (sym (one_more_of t ∙ (let e : is_suspect_by p g s t a ≡ false = rw other refl in rw e (or-false (list_any (is_suspect_by p g s t) (take i items)))))))
+  pub suspects-same : same_symbol a.symbol s ≡ false → IsFirst n m (λ t. is_unwritten_at p g s t || list_any (is_suspect_by p g s t) (take (i + 1) items)) first
+  suspects-same other = IsFirst-same n m (λ t. is_unwritten_at p g s t || list_any (is_suspect_by p g s t) (take i items))
+      (λ t. is_unwritten_at p g s t || list_any (is_suspect_by p g s t) (take (i + 1) items)) first
+      (λ t u. ap (λ (b : Bool). is_unwritten_at p g s t || b) (sym (one_more_of t ∙ (let e : is_suspect_by p g s t a ≡ false = rw other refl in rw e (or-false (list_any (is_suspect_by p g s t) (take i items)))))))
       so_far
-    where
-      or-false : (b : Bool) → (b || false) ≡ b
-      or-false true = refl
-      or-false false = refl
 
 pub suspects-ended : (p : Problem) (g : Graph) (s : Symbol) (n m : ℕ) (items : List Assertion) (i : ℕ) (first : Option (List ℕ)) → length items ≤ i → items ≡ p.assertions
-    → IsFirst n m (λ t. is_error_at p g s t || list_any (is_suspect_by p g s t) (take i items)) first → IsFirst n m (is_broken p g s) first
+    → IsFirst n m (λ t. is_unwritten_at p g s t || list_any (is_suspect_by p g s t) (take i items)) first → IsFirst n m (is_broken p g s) first
 suspects-ended p g s n m items i first l e h =
     let whole : take i items ≡ p.assertions = take_all i items l ∙ e in
     IsFirst-same n m (λ t. found p g s t) (is_broken p g s) first (λ t u. found-is p g s t) (rw whole at h)

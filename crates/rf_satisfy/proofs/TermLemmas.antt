@@ -6,7 +6,7 @@ use Rattle.std.proofs.lemmas.Bool.{and_parts, and_from, both_ways, cases_Bool, c
 use Rattle.std.proofs.lemmas.List.{drop_all, get_or_default}
 use Rattle.std.proofs.lemmas.List.Folds.{Any-from_list_any}
 use Rattle.rf_finite.specs.Range.{some_below}
-use Rattle.rf_finite.proofs.Lists.{list_any-more_pass}
+use Rattle.rf_finite.proofs.Lists.{list_any-here, list_any-more_pass, list_any-next}
 use Rattle.rf_finite.proofs.Range.{some_below-from_one, some_below-none, some_below-same}
 use Rattle.rf_problem.specs.Asserted.{matches}
 use Rattle.rf_problem.specs.Reading.{Assignment, Choice, assign, atoms_among, element_of}
@@ -15,7 +15,7 @@ use Rattle.rf_problem.specs.declared.predicate.Term.TheVariants.{Var, Atom}
 use Rattle.rf_problem.specs.declared.problem.Problem.{Problem}
 use Rattle.rf_graph.specs.Graph.{origin_of, size_of}
 use Rattle.rf_graph.specs.declared.graph.Graph.{Graph}
-use Rattle.rf_satisfy.specs.Evaluation.{AreElements, AreNodes, claim_at, claim_for}
+use Rattle.rf_satisfy.specs.Evaluation.{AreElements, AreNodes, IsClaimFor, claim_at, claim_for, claim_of}
 use Rattle.rf_satisfy.specs.Terms.{is_atom}
 use Rattle.rf_satisfy.specs.Tuples.{ArePassing}
 use Rattle.rf_satisfy.specs.declared.claim.Claim.{Claim}
@@ -62,11 +62,17 @@ claim_at-same p g depth Same t u e = ap (λ (f : Assignment). f 0 == f 1) e
 claim_at-same p g depth Differ t u e = ap (λ (f : Assignment). not (f 0 == f 1)) e
 
 -- after the last term no atom is left
-pub claim_for-ended : (p : Problem) (g : Graph) (depth : ℕ) (claim : Claim) (terms : List Term) (k : ℕ) (nodes : List ℕ) (b : Bool) → length terms ≤ k → b ≡ claim_at p g depth claim nodes
-    → (assignment : Assignment) (choice : Choice) → AreElements nodes terms assignment choice → b ≡ claim_for p g depth claim terms assignment (atoms_among (drop k terms)) choice
-claim_for-ended p g depth claim terms k nodes b l e = λ assignment choice h.
+pub IsClaimFor-ended : (p : Problem) (g : Graph) (depth : ℕ) (claim : Claim) (terms : List Term) (k : ℕ) (nodes : List ℕ) (b : Bool) → length terms ≤ k → b ≡ claim_at p g depth claim nodes
+    → IsClaimFor p g depth claim terms nodes (atoms_among (drop k terms)) b
+IsClaimFor-ended p g depth claim terms k nodes b l e = λ assignment choice h.
     let none : drop k terms ≡ [] = drop_all k terms l in
     rw none (e ∙ claim_at-same p g depth claim nodes (map (element_of assignment choice) terms) h)
+
+-- before the first none is chosen
+pub claim_of-from_start : (p : Problem) (g : Graph) (depth : ℕ) (claim : Claim) (terms : List Term) (assignment nodes : List ℕ) (b : Bool)
+    → slice_index nodes ≡ slice_index (map (element_of (slice_index assignment) (λ o. 0)) terms) → IsClaimFor p g depth claim terms nodes (atoms_among (drop 0 terms)) b
+    → b ≡ claim_of p g depth claim terms (slice_index assignment)
+claim_of-from_start p g depth claim terms assignment nodes b e h = h (slice_index assignment) (λ o. 0) e
 
 -- a variable is passed over, and an atom is the next
 pub atoms_among-variable : (terms : List Term) (k v : ℕ) (t : Term) → k < length terms → get_or terms k t ≡ Var v → atoms_among (drop k terms) ≡ atoms_among (drop (suc k) terms)
@@ -91,3 +97,34 @@ some_below-from g o test items nodes = elim (cases_Bool (list_any test items)) [
       let listed = nodes.complete x l (eq-eqb o (origin_of g x) (sym (eqb-true (origin_of g x) o parts.0))) in
       both_ways (list_any test items) e (list_any-more_pass (λ y. y == x) test items (λ y q. subst (λ (k : ℕ). test k ≡ true) (sym (eqb-true y x q)) parts.1) listed))) ∙ sym e
 ]
+
+-- a loop through the nodes that come from an atom
+module _ (p : Problem) (g : Graph) (depth : ℕ) (claim : Claim) (terms : List Term) (nodes : List ℕ) (o : ℕ) (atoms items : List ℕ)
+    (from : ArePassing (size_of g) (λ x. matches (Some o) (origin_of g x)) items) where
+  -- whether the claim holds with this node for the atom
+  abbrev with_node : Assignment → Choice → ℕ → Bool
+  with_node assignment choice x = claim_for p g depth claim terms assignment atoms (assign choice o x)
+
+  -- so far it doesn't with any
+  abbrev pub IsUndecided : ℕ → Type 0
+  IsUndecided i = (assignment : Assignment) (choice : Choice) → AreElements nodes terms assignment choice
+      → list_any (with_node assignment choice) (drop i items) ≡ list_any (with_node assignment choice) items
+
+  module _ (i : ℕ) (more : List ℕ) (b : Bool) (l : i < length items) (so_far : IsUndecided i) (with_it : IsWithAtom nodes terms o (get_or items i 0) more)
+      (said : IsClaimFor p g depth claim terms more atoms b) where
+    here : (assignment : Assignment) (choice : Choice) → AreElements nodes terms assignment choice → b ≡ with_node assignment choice (get_or items i 0)
+    here assignment choice h = said assignment (assign choice o (get_or items i 0)) (AreElements-with_atom nodes more terms o (get_or items i 0) assignment choice with_it h)
+
+    pub IsClaimFor-found : b ≡ true → IsClaimFor p g depth claim terms nodes (o ∷ atoms) true
+    IsClaimFor-found t = λ assignment choice h.
+        list_any-here (with_node assignment choice) items i (get_or items i 0) l (so_far assignment choice h) (get_or_default items i 0 (get_or items i 0) l) (sym (here assignment choice h) ∙ t)
+        ∙ sym (some_below-from g o (with_node assignment choice) items from)
+
+    pub IsUndecided-next : b ≡ false → IsUndecided (i + 1)
+    IsUndecided-next f = λ assignment choice h.
+        list_any-next (with_node assignment choice) items i (get_or items i 0) l (so_far assignment choice h) (get_or_default items i 0 (get_or items i 0) l) (sym (here assignment choice h) ∙ f)
+
+  pub IsClaimFor-none : (i : ℕ) → length items ≤ i → IsUndecided i → IsClaimFor p g depth claim terms nodes (o ∷ atoms) false
+  IsClaimFor-none i l so_far = λ assignment choice h.
+      let none : drop i items ≡ [] = drop_all i items l in
+      (rw none at so_far assignment choice h) ∙ sym (some_below-from g o (with_node assignment choice) items from)

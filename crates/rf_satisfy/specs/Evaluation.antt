@@ -61,6 +61,11 @@ is_sound_claim p Differ = true
 abbrev pub AreElements : List ℕ → List Term → Assignment → Choice → Type 0
 AreElements t terms assignment choice = slice_index t ≡ slice_index (map (element_of assignment choice) terms)
 
+-- it is whether the claim does, for some nodes for these atoms and for others those in this tuple of the terms' elements
+abbrev pub IsClaimFor : Problem → Graph → ℕ → Claim → List Term → List ℕ → List ℕ → Bool → Type 0
+IsClaimFor p g depth claim terms t atoms b =
+    (assignment : Assignment) (choice : Choice) → AreElements t terms assignment choice → b ≡ claim_for p g depth claim terms assignment atoms choice
+
 -- whether literal i of a clause with these variables holds
 abbrev pub literal_at : Problem → Graph → ℕ → List (Option ℕ) → ℕ → Assignment → Literal → Bool
 literal_at p g depth variables i assignment l =

@@ -22,12 +22,7 @@ fn node_of_atom(index: &GraphIndex<'_>, atom: u64) -> Option<u64>
 
 /// The node that a term stands for whatever the variables from number `v` on do, if that is known: of
 /// a variable before it its node, and of an atom the only node that comes from it.
-pub fn anchor(
-    index: &GraphIndex<'_>,
-    term: Term,
-    v: usize,
-    assignment: [u64; 8],
-) -> Option<u64>
+pub fn anchor(index: &GraphIndex<'_>, term: Term, v: usize, assignment: [u64; 8]) -> Option<u64>
     ensures { IfSome result (IsAnchor index.now.graph v assignment term) }
 {
     match term {

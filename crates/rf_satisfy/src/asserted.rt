@@ -116,7 +116,7 @@ fn first_literal(
         (is_unwritten_at index.now.problem index.now.graph (Symbol.Class class)) t) }
 {
     let mut first = None;
-    for object in 0..index.problem().objects.len() as u64 {
+    for object in 0..index.objects() {
         if is_literal_of(index, object, class) {
             let own = [Some(object)];
             let other = first_suspect(alloc, index, Symbol::Class(class), &own, Truth::True)?;

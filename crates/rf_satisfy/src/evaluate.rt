@@ -3,12 +3,12 @@
 ghost use Rattle.std.specs.Prelude.{◌≡◌, ◌<◌, ◌≤◌, ℕ, suc, Bool, IfOk, IsTrue, length, drop, slice_index, slice_index_or, None, false, true, [], ◌∷◌, All};
 ghost use Rattle.std.specs.List.{list_any, list_all};
 ghost use Rattle.rf_problem.specs.Parts.{predicate_at, arity_of};
-ghost use Rattle.rf_problem.specs.Reading.{Assignment, Choice, is_entry, assign, atoms_among};
+ghost use Rattle.rf_problem.specs.Reading.{is_entry, assign, atoms_among};
 ghost use Rattle.rf_problem.specs.Valid.{is_free};
 ghost use Rattle.rf_graph.specs.Evaluate.{holds};
 ghost use Rattle.rf_finite.specs.Walks.{walk_below};
 ghost use Rattle.rf_graph.specs.Graph.{has_edge, size_of};
-ghost use Rattle.rf_satisfy.specs.Evaluation.{AreElements, AreNodes, IsSound, IsSoundClause, atom_at, cell_of, claim_at, claim_for, claim_of, clause_at, declares, is_sound_claim, literal_at, literals_at, some_claim, some_literals, symbol_at};
+ghost use Rattle.rf_satisfy.specs.Evaluation.{AreNodes, IsClaimFor, IsSound, IsSoundClause, atom_at, cell_of, claim_at, claim_of, clause_at, declares, is_sound_claim, literal_at, literals_at, some_claim, some_literals, symbol_at};
 
 use crate::assignment::{assign, node_of, of_tuple};
 use crate::claim::{Claim, nodes_of_variables, with_atom};
@@ -308,17 +308,7 @@ fn claim_inside(
     }
     for x in 0..index.size() {
         let more = assign(assignment, v, x);
-        if claim_inside(
-            alloc,
-            index,
-            depth,
-            variables,
-            i,
-            claim,
-            terms,
-            v + 1,
-            more,
-        )? {
+        if claim_inside(alloc, index, depth, variables, i, claim, terms, v + 1, more)? {
             return Ok(true);
         }
     }
@@ -360,10 +350,8 @@ fn claim_for_atoms(
     requires sound { IsTrue (is_sound_claim index.now.problem claim) }
     requires few_terms { length terms.now ≤ 8 }
     requires nodes { AreNodes (size_of index.now.graph) nodes }
-    ensures { IfOk result (λ b. (assignment : Assignment) (choice : Choice)
-        → AreElements nodes terms.now assignment choice
-        → b ≡ claim_for index.now.problem index.now.graph depth claim terms.now assignment
-        (atoms_among (drop k terms.now)) choice) }
+    ensures { IfOk result (IsClaimFor index.now.problem index.now.graph depth claim terms.now nodes
+        (atoms_among (drop k terms.now))) }
 {
     if k >= terms.len() {
         return claim_at(alloc, index, depth, claim, nodes);
@@ -391,10 +379,8 @@ fn claim_for_atom(
     requires few_terms { length terms.now ≤ 8 }
     requires nodes { AreNodes (size_of index.now.graph) nodes }
     requires place { k < length terms.now }
-    ensures { IfOk result (λ b. (assignment : Assignment) (choice : Choice)
-        → AreElements nodes terms.now assignment choice
-        → b ≡ claim_for index.now.problem index.now.graph depth claim terms.now assignment
-        (atom ∷ atoms_among (drop (suc k) terms.now)) choice) }
+    ensures { IfOk result (IsClaimFor index.now.problem index.now.graph depth claim terms.now nodes
+        (atom ∷ atoms_among (drop (suc k) terms.now))) }
 {
     for x in index.nodes_matching(Some(atom)) {
         let more = with_atom(nodes, terms, atom, *x);

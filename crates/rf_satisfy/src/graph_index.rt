@@ -74,6 +74,14 @@ impl<'a> GraphIndex<'a> {
         self.graph().nodes.len() as u64
     }
 
+    /// How many objects there are. Each node comes from one of them.
+    pub fn objects(&self) -> u64
+        ensures count { result ≡ length self.now.problem.objects }
+        ensures origins { (x : ℕ) → x < size_of self.now.graph → origin_of self.now.graph x < result }
+    {
+        self.order.problem.objects.len() as u64
+    }
+
     /// Whether node `x` has class `k`, itself or by one that it extends.
     pub fn has_class(&self, k: u32, x: u64) -> bool
         requires { k < length self.now.problem.classes }
@@ -102,6 +110,7 @@ impl<'a> GraphIndex<'a> {
     {
         self.edges.has(r, x, y)
     }
+
     /// The nodes that edges of reference `r` lead to from node `x`.
     pub fn ends_from(&self, r: u32, x: u64) -> &[u64]
         ensures listed { (y : ℕ) → is_listed result.now y ≡ has_edge self.now.graph r x y }

@@ -44,13 +44,7 @@ fn fails_as_edge(
 }
 
 /// Whether the nodes of both terms are known, and different.
-fn are_different(
-    index: &GraphIndex<'_>,
-    a: Term,
-    b: Term,
-    v: usize,
-    assignment: [u64; 8],
-) -> bool
+fn are_different(index: &GraphIndex<'_>, a: Term, b: Term, v: usize, assignment: [u64; 8]) -> bool
     ensures { result ≡ true → FailsFrom index.now.problem index.now.graph v assignment (Literal.Same a b) }
 {
     match anchors(index, a, b, v, assignment) {
@@ -60,13 +54,7 @@ fn are_different(
 }
 
 /// Whether they are known, and the same.
-fn are_same(
-    index: &GraphIndex<'_>,
-    a: Term,
-    b: Term,
-    v: usize,
-    assignment: [u64; 8],
-) -> bool
+fn are_same(index: &GraphIndex<'_>, a: Term, b: Term, v: usize, assignment: [u64; 8]) -> bool
     ensures { result ≡ true → FailsFrom index.now.problem index.now.graph v assignment (Literal.Differ a b) }
 {
     match anchors(index, a, b, v, assignment) {

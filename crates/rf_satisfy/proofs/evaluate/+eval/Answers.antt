@@ -1,13 +1,16 @@
 use Rattle.std.proofs.Common.{rules, arith, sym, ◌∙◌, ◌≡◌, ◌<◌, ◌≤◌, true, ap, max, ℕ, ◌+◌, subst, map, [], ◌∷◌, add-one, length, get_or, suc, refl, drop}
 use Rattle.std.proofs.lemmas.List.{drop_all, get_or_default}
+use Rattle.std.proofs.lemmas.Result.{IfOk-weaker}
 use Rattle.std.specs.Prelude.{slice_index}
 use Rattle.rf_finite.proofs.Range.{some_below-from_one}
 use Rattle.rf_finite.proofs.Lists.{list_any-here, list_any-next}
 use Rattle.rf_finite.proofs.Walks.{walk_below-same}
 use Rattle.rf_graph.specs.Graph.{size_of}
-use Rattle.rf_satisfy.proofs.EvaluationLemmas.{some_assignment-at, AreNodes-assign, AreNodes-arguments, AreNodes-pair, atom_at-empty, atom_at-same, symbol_at-same, predicate_true-deeper, row-more, declared-from_IsSound}
+use Rattle.rf_satisfy.proofs.EvaluationLemmas.{some_assignment-at, AreNodes-assign, AreNodes-pair, atom_at-empty, atom_at-same, symbol_at-same, predicate_true-deeper, row-more, declared-from_IsSound}
 use Rattle.rf_satisfy.proofs.NeighbourLemmas.{some_below-listed}
 use Rattle.rf_satisfy.proofs.PruningLemmas.{pruned}
+use Rattle.rf_satisfy.proofs.TermLemmas.{AreNodes-variables, AreNodes-with_atom, IsClaimFor-ended, IsClaimFor-found, IsClaimFor-none, IsUndecided-next, atoms_among-atom, atoms_among-variable, claim_of-from_start}
+use Rattle.rf_problem.specs.Reading.{atoms_among}
 use Rattle.rf_satisfy.specs.Evaluation.{symbol_at}
 use Rattle.rf_satisfy.proofs.evaluate.+eval.Goals as goal
 
@@ -123,3 +126,73 @@ some_clause-returns-then-branch t c =
 pub some_clause-loop-clause-preserved : goal.some_clause-loop-clause-preserved
 some_clause-loop-clause-preserved t c =
     list_any-next _ c.args.clauses.now c.loop-clause.clause-index c.clause-item.result c.loop-clause-test.true c.loop-clause.invariant c.clause-item.is (sym c.in_ok-clause_from.ensures ∙ c.if-branch.false)
+
+pub claim_for_atoms-returns-then-k-terms : goal.claim_for_atoms-returns-then-k-terms
+claim_for_atoms-returns-then-k-terms t c =
+    let ended : length c.args.terms.now ≤ c.args.k = omega (arith, c.if-k-terms.true) in
+    IfOk-weaker c.claim_at.result _ _ (λ b. IsClaimFor-ended c.args.index.now.problem c.args.index.now.graph c.args.depth c.args.claim c.args.terms.now c.args.k c.args.nodes b ended) c.claim_at.ensures
+
+pub claim_for_atoms-returns-in-Var : goal.claim_for_atoms-returns-in-Var
+claim_for_atoms-returns-in-Var t c =
+    let l : c.args.k < length c.args.terms.now = omega (arith, c.if-k-terms.false) in
+    rw (atoms_among-variable c.args.terms.now c.args.k c.in-Var.field-0 _ l c.in-Var.is) (rw add-one at c.claim_for_atoms.ensures)
+
+pub claim_for_atoms-returns-in-Atom : goal.claim_for_atoms-returns-in-Atom
+claim_for_atoms-returns-in-Atom t c =
+    let l : c.args.k < length c.args.terms.now = omega (arith, c.if-k-terms.false) in
+    rw (atoms_among-atom c.args.terms.now c.args.k c.in-Atom.atom _ l c.in-Atom.is) c.claim_for_atom.ensures
+
+pub claim_for_atom-claim_for_atoms-requires : goal.claim_for_atom-claim_for_atoms-requires
+claim_for_atom-claim_for_atoms-requires t c =
+    let node = (c.nodes_matching-x-items.ensures.only c.loop-x.x-index c.loop-x-test.true).0 in
+    (search rules, (c.requires.sound, (c.requires.few_terms, AreNodes-with_atom c.args.nodes c.with_atom-more.result c.args.terms.now _ c.args.atom _ c.with_atom-more.ensures node c.requires.nodes)))
+
+pub claim_for_atom-returns-then-branch : goal.claim_for_atom-returns-then-branch
+claim_for_atom-returns-then-branch t c =
+    IsClaimFor-found c.args.index.now.problem c.args.index.now.graph c.args.depth c.args.claim c.args.terms.now c.args.nodes c.args.atom (atoms_among (drop (suc c.args.k) c.args.terms.now))
+    c.nodes_matching-x-items.result.now c.nodes_matching-x-items.ensures c.loop-x.x-index c.with_atom-more.result c.in_ok-claim_for_atoms.field-0 c.loop-x-test.true c.loop-x.invariant
+    c.with_atom-more.ensures (rw add-one at c.in_ok-claim_for_atoms.ensures) c.if-branch.true
+
+pub claim_for_atom-loop-x-preserved : goal.claim_for_atom-loop-x-preserved
+claim_for_atom-loop-x-preserved t c =
+    IsUndecided-next c.args.index.now.problem c.args.index.now.graph c.args.depth c.args.claim c.args.terms.now c.args.nodes c.args.atom (atoms_among (drop (suc c.args.k) c.args.terms.now))
+    c.nodes_matching-x-items.result.now c.nodes_matching-x-items.ensures c.loop-x.x-index c.with_atom-more.result c.in_ok-claim_for_atoms.field-0 c.loop-x-test.true c.loop-x.invariant
+    c.with_atom-more.ensures (rw add-one at c.in_ok-claim_for_atoms.ensures) c.if-branch.false
+
+pub claim_for_atom-returns : goal.claim_for_atom-returns
+claim_for_atom-returns t c =
+    IsClaimFor-none c.args.index.now.problem c.args.index.now.graph c.args.depth c.args.claim c.args.terms.now c.args.nodes c.args.atom (atoms_among (drop (suc c.args.k) c.args.terms.now))
+    c.nodes_matching-x-items.result.now c.nodes_matching-x-items.ensures c.loop-x.x-index c.loop-x-test.false c.loop-x.invariant
+
+pub claim_holds-claim_for_atoms-requires : goal.claim_holds-claim_for_atoms-requires
+claim_holds-claim_for_atoms-requires t c =
+    (search rules, (c.requires.sound, (c.requires.few_terms, AreNodes-variables c.nodes_of_variables-nodes.result c.args.assignment c.args.terms.now _ c.nodes_of_variables-nodes.ensures c.requires.nodes)))
+
+pub claim_holds-returns : goal.claim_holds-returns
+claim_holds-returns t c =
+    IfOk-weaker c.claim_for_atoms.result _ _ (λ b. claim_of-from_start c.args.index.now.problem c.args.index.now.graph c.args.depth c.args.claim c.args.terms.now c.args.assignment
+    c.nodes_of_variables-nodes.result b c.nodes_of_variables-nodes.ensures) c.claim_for_atoms.ensures
+
+pub claim_inside-returns-then-v-variables : goal.claim_inside-returns-then-v-variables
+claim_inside-returns-then-v-variables t c =
+    let none : drop c.args.v c.args.variables.now ≡ [] = drop_all c.args.v c.args.variables.now (omega arith) in
+    rw none c.claim_holds.ensures
+
+pub claim_inside-claim_inside-requires-in-loop-x : goal.claim_inside-claim_inside-requires-in-loop-x
+claim_inside-claim_inside-requires-in-loop-x t c =
+    let l : c.loop-x.x < size_of c.args.index.now.graph = omega (arith, c.size-x-end.ensures) in
+    (search rules, (c.requires.few, (c.requires.sound, (c.requires.few_terms, AreNodes-assign c.assign-more.result c.args.assignment _ c.args.v c.loop-x.x c.assign-more.ensures l c.requires.nodes))))
+
+pub claim_inside-returns-then-branch : goal.claim_inside-returns-then-branch
+claim_inside-returns-then-branch t c =
+    let lx : c.loop-x.x < size_of c.args.index.now.graph = omega (arith, c.size-x-end.ensures) in
+    let e = sym c.is_of_literal.ensures ∙ c.if-not-is_of_literal.false in
+    let l : c.args.v < length c.args.variables.now = omega arith in
+    let here = sym (rw (add-one, c.assign-more.ensures) at c.in_ok-claim_inside.ensures) ∙ c.if-branch.true in
+    rw (some_assignment-at, e) (sym (some_below-from_one (size_of c.args.index.now.graph) _ c.loop-x.x lx here))
+
+pub literal_holds-returns-in-Same : goal.literal_holds-returns-in-Same
+literal_holds-returns-in-Same t c = rw c.in-Same.is c.claim_holds-in-Same.ensures
+
+pub literal_holds-returns-in-Differ : goal.literal_holds-returns-in-Differ
+literal_holds-returns-in-Differ t c = rw c.in-Differ.is c.claim_holds-in-Differ.ensures

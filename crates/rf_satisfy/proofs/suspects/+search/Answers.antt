@@ -31,7 +31,7 @@ first_from-requires t c =
     let longer : length c.longer.result ≡ length c.args.prefix + 1 = ap length c.longer.ensures ∙ len in
     let all : All (λ y. y < size_of c.args.index.now.graph) c.longer.result = rw c.longer.ensures (All-push (λ y. y < size_of c.args.index.now.graph) c.args.prefix x c.requires.nodes node.0) in
     let matched = matched-more (origin_of c.args.index.now.graph) c.args.args.now c.args.prefix x short c.requires.matched node.1 in
-    (search (rules, longer, short), (c.requires.declared, (c.requires.arity, (c.requires.few, (c.requires.objects, (omega arith, (all, rw c.longer.ensures matched)))))))
+    (search (rules, longer, short), (c.requires.declared, (c.requires.arity, (c.requires.few, (omega arith, (all, rw c.longer.ensures matched))))))
 
 pub returns-then-is_some : goal.returns-then-is_some
 returns-then-is_some t c =
