@@ -113,8 +113,7 @@ module _ (here : Reading) (w : Interpretation) (agree : Agree here w) (assignmen
   pub ForSomeChoice-from_some_elements : ((t : Choice) → passes t ≡ true → P (map (element_of assignment t) terms))
       → some_elements here assignment terms test ≡ true → ForSomeChoice w assignment terms P
   ForSomeChoice-from_some_elements holds h =
-      let one = one-from_some_choice here w agree passes (atoms_among terms) (λ o. 0) h in
-      (
+      let one = one-from_some_choice here w agree passes (atoms_among terms) (λ o. 0) h in (
         one.0,
         record {
           present = λ o c. (one.1.inside o (among-from_Contains o terms c)).0;

@@ -95,4 +95,3 @@ module _ (p : Problem) where
         steps = λ e. subst (λ b. (not b || has_steps p.predicates symbol) ≡ true) e third.0;
         stand = third.1;
       }
-
