@@ -1,10 +1,10 @@
 -- Readings and interpretations that say the same.
-use Rattle.std.proofs.Common.{◌≡◌, ◌↔◌, ℕ, ◌<◌, Bool, true, false, List, length}
+use Rattle.std.proofs.Common.{◌≡◌, ◌↔◌, ℕ, ◌<◌, true, false, List, length}
 use Rattle.rf_problem.specs.Holds.{Interpretation}
 use Rattle.rf_problem.specs.Parts.{predicate_at}
 use Rattle.rf_problem.specs.Reading.{Calls, Reading}
 use Rattle.rf_problem.specs.declared.predicate.Literal.{Literal}
-use Rattle.rf_problem.specs.declared.predicate.Literal.TheVariants.{Call, Same, Differ}
+use Rattle.rf_problem.specs.declared.predicate.Literal.TheVariants.{Call}
 use Rattle.rf_problem.specs.declared.predicate.Predicate.{Predicate as Definition}
 use Rattle.rf_problem.specs.declared.symbol.Symbol.{Symbol}
 use Rattle.rf_problem.specs.declared.symbol.Symbol.TheVariants.{Predicate}

@@ -1,11 +1,10 @@
 -- The elements chosen for the atoms of a literal, computed and in words.
-use Rattle.std.proofs.Common.{◌≡◌, ℕ, ◌<◌, Bool, true, false, ◌&&◌, ◌||◌, ◌==◌, if◌then◌else◌, List, [], ◌∷◌, Contains, map, refl, sym, ap, ap₂, ◌∙◌, subst, inl, inr, true≢false}
+use Rattle.std.proofs.Common.{◌≡◌, ℕ, Bool, true, false, ◌&&◌, ◌||◌, ◌==◌, if◌then◌else◌, List, [], ◌∷◌, Contains, map, refl, sym, ap, ap₂, ◌∙◌, subst, inl, inr, true≢false}
 use Rattle.std.specs.List.{list_any}
 use Rattle.std.proofs.lemmas.Bool.{cases_Bool, and_parts, and_from, or_cases, or_parts, or_left, or_right, eqb-true, eq-eqb, ne_eqb}
-use Rattle.rf_finite.specs.Range.{some_below}
 use Rattle.rf_finite.proofs.Range.{one-from_some_below, some_below-from_one}
 use Rattle.rf_finite.proofs.Lists.{one-from_list_any, list_any-from_one}
-use Rattle.rf_problem.specs.Holds.{ChoosesAtoms, ForSomeChoice, Interpretation}
+use Rattle.rf_problem.specs.Holds.{ForSomeChoice, Interpretation}
 use Rattle.rf_problem.specs.Reading.{Assignment, Choice, Reading, assign, atoms_among, element_of, some_choice, some_elements}
 use Rattle.rf_problem.specs.declared.predicate.Term.{Term}
 use Rattle.rf_problem.specs.declared.predicate.Term.TheVariants.{Var, Atom}

@@ -1,14 +1,14 @@
 -- What a predicate says in one reading it says in each reading that follows.
-use Rattle.std.proofs.Common.{◌≡◌, ℕ, zero, suc, ◌<◌, Bool, true, false, not, ◌&&◌, ◌||◌, ◌==◌, nat_lt, Option, Some, None, List, [], ◌∷◌, length, slice_index_or, slice_index, map, drop, ◌⊎◌, refl, sym, ◌∙◌, subst, inl, inr, arith, true≢false, All}
+use Rattle.std.proofs.Common.{◌≡◌, ℕ, zero, suc, ◌<◌, Bool, true, false, ◌&&◌, ◌==◌, Option, None, List, [], ◌∷◌, length, slice_index_or, slice_index, map, drop, ◌⊎◌, refl, sym, ◌∙◌, subst, inl, inr, arith, true≢false, All}
 use Rattle.std.proofs.lemmas.Bool.{and_parts, and_from, or_cases, or_left, or_right, cases_Bool, cases_lt, not-true, not_from_false, false_from_ne_true, both_ways, eqb-true, eq-eqb, eqb-false, ltb-true}
 use Rattle.std.proofs.lemmas.List.{length-map}
 use Rattle.std.specs.List.{list_any, list_all}
 use Rattle.rf_finite.proofs.Range.{some_below-from_one, one-from_some_below}
 use Rattle.rf_finite.proofs.Walks.{walk_below-from_IsWalk, IsReachable-along, IsReachable-from_walk_below}
 use Rattle.rf_problem.specs.Follows.{Follows, AreRelated, CarriesOver}
-use Rattle.rf_problem.specs.Parts.{predicate_at, arity_of, no_predicate, object_at}
+use Rattle.rf_problem.specs.Parts.{predicate_at, arity_of, no_predicate}
 use Rattle.rf_problem.specs.Reading.{Assignment, Calls, Choice, Reading, assign, atom_true, atoms_among, call_true, clause_true, element_of, is_entry, literal_true, literals_true, predicate_true, some_assignment, some_choice, some_elements, symbol_true}
-use Rattle.rf_problem.specs.Valid.{FitsClause, fit_literals, fits_literal, fits_term, has_steps, is_atom, is_declared, is_free, may_stand, ranges_over}
+use Rattle.rf_problem.specs.Valid.{FitsClause, fits_term, has_steps, is_declared, is_free, may_stand}
 use Rattle.rf_problem.specs.declared.predicate.Clause.{Clause}
 use Rattle.rf_problem.specs.declared.predicate.Predicate.{Predicate as Definition}
 use Rattle.rf_problem.specs.declared.predicate.Literal.{Literal}

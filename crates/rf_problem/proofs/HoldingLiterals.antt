@@ -1,5 +1,5 @@
 -- Literals, computed and in words.
-use Rattle.std.proofs.Common.{◌≡◌, ◌⊎◌, ℕ, ◌<◌, Bool, true, false, not, ◌&&◌, ◌==◌, Option, Some, None, List, [], ◌∷◌, length, map, if◌then◌else◌, slice_get, slice_index, slice_index_or, refl, sym, ap₂, ◌∙◌, subst, inl, inr, true≢false}
+use Rattle.std.proofs.Common.{◌≡◌, ℕ, ◌<◌, Bool, true, false, ◌&&◌, Option, Some, None, List, [], ◌∷◌, length, map, if◌then◌else◌, slice_get, slice_index, slice_index_or, refl, sym, ap₂, ◌∙◌, subst, inl, inr}
 use Rattle.std.specs.List.{list_all}
 use Rattle.std.proofs.lemmas.Bool.{and_parts, both_ways, not-true, not_from_false, false_from_ne_true, eq-eqb}
 use Rattle.std.proofs.lemmas.List.{length-map}

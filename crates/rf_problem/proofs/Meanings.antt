@@ -1,5 +1,5 @@
 -- Clauses and predicates, computed and in words; their one meaning.
-use Rattle.std.proofs.Common.{◌≡◌, ℕ, zero, suc, ◌≤◌, ◌<◌, Bool, true, false, ◌==◌, Option, Some, None, List, [], ◌∷◌, Contains, length, drop, if◌then◌else◌, slice_get, slice_index, slice_index_or, refl, sym, ◌∙◌, subst, inl, inr, arith}
+use Rattle.std.proofs.Common.{◌≡◌, ℕ, zero, suc, ◌<◌, Bool, true, false, List, [], Contains, length, drop, if◌then◌else◌, slice_index, refl, sym, ◌∙◌, subst, inl, inr, arith}
 use Rattle.std.specs.List.{list_any}
 use Rattle.std.proofs.lemmas.Bool.{cases_Bool, cases_lt, both_ways, false_from_ne_true, eq-eqb}
 use Rattle.std.proofs.lemmas.List.Elements.{All-contains}
