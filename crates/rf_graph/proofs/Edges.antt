@@ -1,6 +1,5 @@
 -- Edges, computed and in words.
-use Rattle.std.proofs.Common.{◌≡◌, ℕ, Bool, true, ◌==◌, ◌&&◌, List, Contains, refl, subst}
-use Rattle.std.specs.List.{list_any}
+use Rattle.std.proofs.Common.{◌≡◌, ℕ, Bool, true, ◌==◌, ◌&&◌, Contains, refl, subst}
 use Rattle.std.proofs.lemmas.Bool.{and_parts, and_from, eqb-true, eq-eqb}
 use Rattle.rf_finite.proofs.Lists.{one-from_list_any, list_any-from_one}
 use Rattle.rf_graph.specs.Graph.{HasEdge, has_edge}

@@ -1,5 +1,5 @@
 -- What holds in a graph, computed and in words.
-use Rattle.std.proofs.Common.{◌≡◌, ◌≢◌, ℕ, ◌<◌, Bool, true, not, ◌==◌, List, length, refl, sym, ◌∙◌}
+use Rattle.std.proofs.Common.{◌≡◌, ℕ, true, ◌==◌, List, length, refl, sym, ◌∙◌}
 use Rattle.std.proofs.lemmas.Bool.{eqb-true, eq-eqb, eqb-false, ne_eqb, not-true, not_from_false}
 use Rattle.rf_problem.specs.Holds.{Meaning}
 use Rattle.rf_problem.specs.Parts.{arity_of, predicate_at}
