@@ -1,15 +1,11 @@
 //! The program `rf_cases`: it reads cases of runs from its files, runs each, and says which of them
-//! don't end as is wanted. README.md has the form of the files.
+//! don't end as is wanted.
 #![tactic(auto)]
 
-mod bytes;
-mod case;
-mod numbers;
-mod reader;
 mod trial;
 
 use anyhow::Result;
-use reader::read_cases;
+use rf_case_reader::read_cases;
 use std::fs;
 use std::process::ExitCode;
 use trial::{Tally, try_case};

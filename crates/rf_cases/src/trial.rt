@@ -1,15 +1,13 @@
 //! The trial of a case, and the count of trials.
 
-use crate::case::{Case, Outcome, Setting};
 use anyhow::Result;
-use rf_io::{MemFolder, MemSink};
+use rf_case_reader::{Case, Outcome, Setting, error_output_of, folder_of, output_of};
 use rf_run::run;
-use rf_text::Text;
 use std::alloc::{AllocError, Global};
 use std::fmt;
 
 /// How many cases passed, and how many failed.
-#[derive(Clone, Copy, Debug, Default)]
+#[derive(Clone, Copy, Default)]
 pub struct Tally {
     passed: u64,
     failed: u64,
@@ -43,41 +41,13 @@ impl fmt::Display for Tally {
     }
 }
 
-fn copy_files(
-    alloc: Global,
-    files: &[(Text, Vec<u8>)],
-) -> Result<Vec<(Text, Vec<u8>)>, AllocError> {
-    let mut copies = Vec::new(alloc);
-    for file in files {
-        copies.push((file.0.clone()?, file.1.as_slice().to_vec(alloc)?))?;
-    }
-    Ok(copies)
-}
-
-fn only(alloc: Global, call: Option<u64>) -> Result<Vec<u64>, AllocError> {
-    let mut calls = Vec::new(alloc);
-    if let Some(call) = call {
-        calls.push(call)?;
-    }
-    Ok(calls)
-}
-
 // What a run of the case leaves in one of its settings.
 fn outcome(alloc: Global, case: &Case, setting: &Setting) -> Result<Outcome, AllocError> {
-    let step = setting.step.max(1);
-    let files = copy_files(alloc, case.files.as_slice())?;
-    let mut folder = MemFolder::new(files, only(alloc, setting.failing_read)?, step);
-    let failing_out = only(alloc, setting.failing_out)?;
-    let mut out = MemSink::new(alloc, setting.out_room, failing_out, step)?;
-    let failing_err = only(alloc, setting.failing_err)?;
-    let mut err = MemSink::new(alloc, setting.err_room, failing_err, step)?;
-    let status = run(
-        alloc,
-        case.words.as_slice(),
-        &mut folder,
-        &mut out,
-        &mut err,
-    );
+    let mut folder = folder_of(alloc, case, setting)?;
+    let mut out = output_of(alloc, setting)?;
+    let mut err = error_output_of(alloc, setting)?;
+    let words = case.words.as_slice();
+    let status = run(alloc, words, &mut folder, &mut out, &mut err);
     Ok(Outcome {
         status: Some(status.code()),
         out: out.bytes().to_vec(alloc)?,

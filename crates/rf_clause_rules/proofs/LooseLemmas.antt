@@ -1,5 +1,5 @@
 -- The offsets of loose variables.
-use Rattle.std.proofs.Common.{◌≡◌, ◌<◌, ◌+◌, ◌∙◌, ℕ, suc, Bool, true, false, not, List, [], ◌∷◌, ◌++◌, length, map, filter, take, get_or, append_assoc, Option, Some, arith, refl, sym, ap, inl, inr}
+use Rattle.std.proofs.Common.{◌≡◌, ◌<◌, ◌+◌, ◌∙◌, ℕ, suc, Bool, true, false, not, List, [], ◌∷◌, ◌++◌, length, map, filter, take, get_or, Some, arith, refl, sym, ap, inl, inr}
 use Rattle.std.specs.Prelude.{◌==◌, ◌&&◌, ◌||◌, if◌then◌else◌}
 use Rattle.std.specs.BTreeMap.{BTreeMap, get_by}
 use Rattle.std.specs.Cmp.Lexicographic.{slice_cmp}
@@ -9,22 +9,23 @@ use Rattle.std.specs.Option.{unwrap_or}
 use Rattle.std.specs.Ordering.{nat_cmp}
 use Rattle.std.specs.Str.{bytes_eq}
 use Rattle.std.proofs.lemmas.Bool.{cases_Bool, eq-eqb}
-use Rattle.std.proofs.lemmas.List.{append-nil, length-map, length-take-le, take_more}
+use Rattle.std.proofs.lemmas.List.{length-map, length-take-le, take_more}
+use Rattle.std.proofs.lemmas.List.Elements.{filter-append}
 use Rattle.std.proofs.lemmas.List.Folds.{list_any-append}
 use Rattle.std.proofs.lemmas.Slice.Eq.{bytes_eq-Decides}
 use denote.Ref.{Bor}
 use Rattle.rf_syntax.specs.declared.name.Name.{Name}
 use Rattle.rf_syntax.specs.declared.predicate.BodyLiteral.{BodyLiteral}
 use Rattle.rf_syntax.specs.declared.predicate.Param.{Param}
-use Rattle.rf_names.specs.Bodies.{clause_names, is_loose, loose_variables, param_names}
-use Rattle.rf_names.specs.Declarations.{PredicateDecl}
-use Rattle.rf_names.specs.Offsets.{least_of, lesser, offset_if, offsets_in_clauses}
-use Rattle.rf_names.specs.LookUp.{first_of_each, is_blank, reads}
-use Rattle.rf_clause_rules.specs.Occurrences.{behind_literal, behind_literals, is_loose_occurrence, named_among, named_in, occurrence_in, occurrence_of}
+use Rattle.rf_names.specs.Bodies.{clause_names, is_loose, loose_variables}
+use Rattle.rf_names.specs.Declarations.{Declared, is_among, is_atom_argument, param_names}
+use Rattle.rf_names.specs.Offsets.{least_of, offset_if}
+use Rattle.rf_names.specs.LookUp.{first_of_each}
+use Rattle.rf_names.specs.Texts.{is_blank, reads}
+use Rattle.rf_clause_rules.specs.Occurrences.{after_arguments, after_literal, after_literals, is_loose_occurrence, named_among, named_in, occurrence_in, occurrence_of}
 use Rattle.rf_clause_rules.specs.declared.occurrence.Occurrence.{Occurrence}
 use Rattle.rf_clause_rules.specs.declared.occurrence.Occurrence.TheVariants.{Nowhere, Inside, Loose, Bound}
 use Rattle.rf_names.proofs.MapLemmas.{map_one_more}
-use Rattle.rf_names.proofs.LeastOffsets.{least_of_append}
 use Rattle.rf_clause_rules.proofs.OccurrenceLemmas.{loose_occurrence}
 
 -- to name it twice in one literal says no more
@@ -62,9 +63,9 @@ name_added old new k negated name key text o w is was now updated =
           else occurrence_in old text) (sym miss))
     ]
 
--- one name more
+-- names that are joined
 named_or : (k : ℕ) (negated : Bool) (o : Occurrence) (a b : Bool) →
-    (if a || (b || false) then named_in k negated o else o)
+    (if a || b then named_in k negated o else o)
     ≡ (if b then named_in k negated (if a then named_in k negated o else o)
     else (if a then named_in k negated o else o))
 named_or k negated o true true = sym (named_twice k negated o)
@@ -72,69 +73,85 @@ named_or k negated o true false = refl
 named_or k negated o false true = refl
 named_or k negated o false false = refl
 
-named_snoc : (k : ℕ) (negated : Bool) (names : List Name) (name : Name) (text : List ℕ)
-    (o : Occurrence) →
-    named_among k negated (names ++ name ∷ []) text o
-    ≡ (if reads text name then named_in k negated (named_among k negated names text o)
-    else named_among k negated names text o)
-named_snoc k negated names name text o =
-    ap (λ b. if b then named_in k negated o else o) (list_any-append (reads text) names (name ∷ []))
-    ∙ named_or k negated o (list_any (reads text) names) (reads text name)
+named_join : (k : ℕ) (negated : Bool) (xs ys : List Name) (text : List ℕ) (o : Occurrence) →
+    named_among k negated (xs ++ ys) text o
+    ≡ named_among k negated ys text (named_among k negated xs text o)
+named_join k negated xs ys text o =
+    ap (λ b. if b then named_in k negated o else o) (list_any-append (reads text) xs ys)
+    ∙ named_or k negated o (list_any (reads text) xs) (list_any (reads text) ys)
 
-pub named_more : (k : ℕ) (negated : Bool) (names : List Name) (i : ℕ) (name : Name) (text : List ℕ)
-    (o now new : Occurrence) →
-    i < length names → name ≡ get_or names i name →
-    now ≡ named_among k negated (take i names) text o →
-    new ≡ (if reads text name then named_in k negated now else now) →
-    new ≡ named_among k negated (take (i + 1) names) text o
-named_more k negated names i name text o now new below is before step =
-    step ∙ ap (λ p. if reads text name then named_in k negated p else p) before
-    ∙ ap (λ n. if reads text n
-    then named_in k negated (named_among k negated (take i names) text o)
-    else named_among k negated (take i names) text o) is
-    ∙ sym (named_snoc k negated (take i names) (get_or names i name) text o)
-    ∙ ap (λ ns. named_among k negated ns text o) (sym (take_more names i name below))
+-- arguments of the body of a predicate
+module _ (d : Declared) (params : List Param) (k : ℕ) (negated : Bool) where
+  -- an argument that stands for an atom
+  pub atom_added : (name : Name) (text : List ℕ) (o : Occurrence) →
+      is_atom_argument d.atoms params name ≡ true →
+      o ≡ after_arguments d params k negated (name ∷ []) text o
+  atom_added name text o atom = rw atom refl
 
-pub param_more : (k : ℕ) (negated : Bool) (params : List Param) (i : ℕ) (param : Param)
-    (text : List ℕ) (o now new : Occurrence) →
-    i < length params → param ≡ get_or params i param →
-    now ≡ named_among k negated (param_names (take i params)) text o →
-    new ≡ (if reads text param.name then named_in k negated now else now) →
-    new ≡ named_among k negated (param_names (take (i + 1) params)) text o
-param_more k negated params i param text o now new below is before step =
-    step ∙ ap (λ p. if reads text param.name then named_in k negated p else p) before
-    ∙ sym (named_snoc k negated (param_names (take i params)) param.name text o)
-    ∙ ap (λ ns. named_among k negated ns text o)
-    (sym (map_one_more (λ (p : Param). p.name) params i param below is))
+  -- one that stands for a variable
+  pub variable_added : (name : Name) (text : List ℕ) (o new : Occurrence) →
+      is_atom_argument d.atoms params name ≡ false →
+      new ≡ (if reads text name then named_in k negated o else o) →
+      new ≡ after_arguments d params k negated (name ∷ []) text o
+  variable_added name text o new variable step =
+      step ∙ rw variable (ap (λ b. if b then named_in k negated o else o) (sym (or_false (reads text name))))
+    where
+      or_false : (b : Bool) → (b || false) ≡ b
+      or_false true = refl
+      or_false false = refl
 
-pub named_both : (k : ℕ) (negated : Bool) (a b : Name) (text : List ℕ)
-    (o first second : Occurrence) →
-    first ≡ (if reads text a then named_in k negated o else o) →
-    second ≡ (if reads text b then named_in k negated first else first) →
-    second ≡ named_among k negated (a ∷ b ∷ []) text o
-named_both k negated a b text o first second one two =
-    two ∙ ap (λ p. if reads text b then named_in k negated p else p) one
-    ∙ sym (named_or k negated o (reads text a) (reads text b))
+  -- arguments that are joined
+  arguments_join : (xs ys : List Name) (text : List ℕ) (o : Occurrence) →
+      after_arguments d params k negated (xs ++ ys) text o
+      ≡ after_arguments d params k negated ys text (after_arguments d params k negated xs text o)
+  arguments_join xs ys text o =
+      let kept : Name → Bool = λ n. not (is_atom_argument d.atoms params n) in
+      ap (λ ns. named_among k negated ns text o) (filter-append kept xs ys)
+      ∙ named_join k negated (filter kept xs) (filter kept ys) text o
+
+  -- a loop's step
+  pub arguments_more : (names : List Name) (i : ℕ) (name : Name) (text : List ℕ) (o now new : Occurrence) →
+      i < length names → name ≡ get_or names i name →
+      now ≡ after_arguments d params k negated (take i names) text o →
+      new ≡ after_arguments d params k negated (name ∷ []) text now →
+      new ≡ after_arguments d params k negated (take (i + 1) names) text o
+  arguments_more names i name text o now new below is before step =
+      step ∙ ap (after_arguments d params k negated (name ∷ []) text) before
+      ∙ ap (λ n. after_arguments d params k negated (n ∷ []) text (after_arguments d params k negated (take i names) text o)) is
+      ∙ sym (arguments_join (take i names) (get_or names i name ∷ []) text o)
+      ∙ ap (λ ns. after_arguments d params k negated ns text o) (sym (take_more names i name below))
+
+  -- two of them
+  pub arguments_both : (a b : Name) (text : List ℕ) (o first second : Occurrence) →
+      first ≡ after_arguments d params k negated (a ∷ []) text o →
+      second ≡ after_arguments d params k negated (b ∷ []) text first →
+      second ≡ after_arguments d params k negated (a ∷ b ∷ []) text o
+  arguments_both a b text o first second one two =
+      two ∙ ap (after_arguments d params k negated (b ∷ []) text) one
+      ∙ sym (arguments_join (a ∷ []) (b ∷ []) text o)
 
 -- one literal more
-behind_snoc : (k m : ℕ) (ls : List BodyLiteral) (l : BodyLiteral) (text : List ℕ) (o : Occurrence)
-    → m ≡ k + length ls →
-    behind_literals k (ls ++ l ∷ []) text o ≡ behind_literal m l text (behind_literals k ls text o)
-behind_snoc k m [] l text o e = let same : k ≡ m = omega arith in
-    ap (λ n. behind_literal n l text o) same
-behind_snoc k m (x ∷ ls) l text o e = behind_snoc (suc k) m ls l text (behind_literal k x text o)
-    (omega arith)
+module _ (d : Declared) (params : List Param) where
+  after_snoc : (k m : ℕ) (ls : List BodyLiteral) (l : BodyLiteral) (text : List ℕ) (o : Occurrence) →
+      m ≡ k + length ls →
+      after_literals d params k (ls ++ l ∷ []) text o
+      ≡ after_literal d params m l text (after_literals d params k ls text o)
+  after_snoc k m [] l text o e = let same : k ≡ m = omega arith in
+      ap (λ n. after_literal d params n l text o) same
+  after_snoc k m (x ∷ ls) l text o e =
+      after_snoc (suc k) m ls l text (after_literal d params k x text o) (omega arith)
 
-pub behind_more : {X : Type 0} (f : X → BodyLiteral) (xs : List X) (i : ℕ) (x : X) (text : List ℕ)
-    (o now new : Occurrence) →
-    i < length xs → x ≡ get_or xs i x → now ≡ behind_literals 0 (map f (take i xs)) text o →
-    new ≡ behind_literal i (f x) text now → new ≡ behind_literals 0 (map f (take (i + 1) xs)) text o
-behind_more f xs i x text o now new below is before step =
-    let long : length (map f (take i xs)) ≡ length (take i xs) = length-map (take i xs) f in
-    let short : length (take i xs) ≡ i = length-take-le i xs (omega arith) in
-    step ∙ ap (behind_literal i (f x) text) before
-    ∙ sym (behind_snoc 0 i (map f (take i xs)) (f x) text o (omega arith))
-    ∙ ap (λ ls. behind_literals 0 ls text o) (sym (map_one_more f xs i x below is))
+  pub after_more : {X : Type 0} (f : X → BodyLiteral) (xs : List X) (i : ℕ) (x : X) (text : List ℕ)
+      (o now new : Occurrence) →
+      i < length xs → x ≡ get_or xs i x → now ≡ after_literals d params 0 (map f (take i xs)) text o →
+      new ≡ after_literal d params i (f x) text now →
+      new ≡ after_literals d params 0 (map f (take (i + 1) xs)) text o
+  after_more f xs i x text o now new below is before step =
+      let long : length (map f (take i xs)) ≡ length (take i xs) = length-map (take i xs) f in
+      let short : length (take i xs) ≡ i = length-take-le i xs (omega arith) in
+      step ∙ ap (after_literal d params i (f x) text) before
+      ∙ sym (after_snoc 0 i (map f (take i xs)) (f x) text o (omega arith))
+      ∙ ap (λ ls. after_literals d params 0 ls text o) (sym (map_one_more f xs i x below is))
 
 -- the offsets of those that pass
 filtered_offsets : (p q : Name → Bool) → ((n : Name) → p n ≡ q n) → (ns : List Name) →
@@ -147,19 +164,18 @@ filtered_offsets p q same (n ∷ ns) =
       | inr e ↦ (let here : p n ≡ false = same n ∙ e in rw (here, e) rest)
     ]
 
-pub loose_least : (params : List Param) (clause : List BodyLiteral)
+pub loose_least : (d : Declared) (params : List Param) (clause : List BodyLiteral)
     (occurrences : BTreeMap (Bor (List ℕ)) Occurrence) (firsts : List Name) →
-    ((text : List ℕ) → occurrence_in occurrences text ≡ occurrence_of params clause text) →
-    firsts ≡ first_of_each [] (clause_names clause) →
+    ((text : List ℕ) → occurrence_in occurrences text ≡ occurrence_of d params clause text) →
+    firsts ≡ first_of_each [] (clause_names d params clause) →
     least_of (flat_map (λ n. offset_if (not (is_blank n)
-    && is_loose_occurrence (occurrence_in occurrences n.text)) n.at) firsts)
-    ≡ least_of (map (λ v. v.at) (loose_variables params clause))
-loose_least params clause occurrences firsts each are =
-    let same : (n : Name) → (not (is_blank n)
-    && is_loose_occurrence (occurrence_in occurrences n.text)) ≡ is_loose params clause n =
-    λ n. ap (λ o. not (is_blank n) && is_loose_occurrence o) (each n.text)
-    ∙ ap (λ b. not (is_blank n) && b) (loose_occurrence n.text params clause) in
-    ap least_of (filtered_offsets (λ n. not (is_blank n)
-    && is_loose_occurrence (occurrence_in occurrences n.text))
-    (is_loose params clause) same firsts)
-    ∙ ap (λ ns. least_of (map (λ v. v.at) (filter (is_loose params clause) ns))) are
+    && (not (is_among (param_names params) n) && is_loose_occurrence (occurrence_in occurrences n.text))) n.at) firsts)
+    ≡ least_of (map (λ v. v.at) (loose_variables d params clause))
+loose_least d params clause occurrences firsts each are =
+    let test : Name → Bool = λ n. not (is_blank n)
+    && (not (is_among (param_names params) n) && is_loose_occurrence (occurrence_in occurrences n.text)) in
+    let same : (n : Name) → test n ≡ is_loose d params clause n =
+    λ n. ap (λ o. not (is_blank n) && (not (is_among (param_names params) n) && is_loose_occurrence o)) (each n.text)
+    ∙ ap (λ b. not (is_blank n) && (not (is_among (param_names params) n) && b)) (loose_occurrence d params n.text clause) in
+    ap least_of (filtered_offsets test (is_loose d params clause) same firsts)
+    ∙ ap (λ ns. least_of (map (λ v. v.at) (filter (is_loose d params clause) ns))) are

@@ -1,33 +1,33 @@
 -- What the occurrence of a variable says of the literals.
 use Rattle.std.proofs.Common.{◌≡◌, ◌<◌, ◌+◌, ◌∙◌, ℕ, suc, Bool, true, false, not, cond, List, [], ◌∷◌, arith, refl, sym, ap, inl, inr}
 use Rattle.std.specs.Prelude.{◌==◌, ◌&&◌, ◌||◌, count_by, nat_lt}
-use Rattle.std.specs.List.{list_all, list_any}
+use Rattle.std.specs.List.{list_all}
 use Rattle.std.proofs.lemmas.Bool.{cases_Bool, le-ltb, lt-ltb, ltb-false, ltb-true, ne_eqb}
 use Rattle.std.proofs.lemmas.List.Sums.{sum_by-cons}
 use Rattle.rf_syntax.specs.declared.predicate.BodyLiteral.{BodyLiteral}
 use Rattle.rf_syntax.specs.declared.predicate.Param.{Param}
-use Rattle.rf_names.specs.Bodies.{is_negated, names_variable, param_names}
-use Rattle.rf_names.specs.LookUp.{reads}
-use Rattle.rf_clause_rules.specs.Occurrences.{behind_literals, is_loose_occurrence, occurrence_of}
+use Rattle.rf_names.specs.Bodies.{is_negated, names_variable}
+use Rattle.rf_names.specs.Declarations.{Declared}
+use Rattle.rf_clause_rules.specs.Occurrences.{after_literals, is_loose_occurrence, occurrence_of}
 use Rattle.rf_clause_rules.specs.declared.occurrence.Occurrence.TheVariants.{Nowhere, Inside, Loose, Bound}
 
-module _ (text : List ℕ) where
+module _ (d : Declared) (params : List Param) (text : List ℕ) where
   -- whether a literal doesn't name it, or is negated
   abbrev pub leaves_free : BodyLiteral → Bool
-  leaves_free l = not (names_variable text l) || is_negated l
+  leaves_free l = not (names_variable d params text l) || is_negated l
 
   abbrev pub times : List BodyLiteral → ℕ
-  times ls = count_by (names_variable text) ls
+  times ls = count_by (names_variable d params text) ls
 
   times-cons : (l : BodyLiteral) (ls : List BodyLiteral) → times (l ∷ ls)
-      ≡ cond (names_variable text l) 1 0 + times ls
-  times-cons l ls = sum_by-cons (λ m. cond (names_variable text m) 1 0) l ls
+      ≡ cond (names_variable d params text l) 1 0 + times ls
+  times-cons l ls = sum_by-cons (λ m. cond (names_variable d params text m) 1 0) l ls
 
-  times-there : (l : BodyLiteral) (ls : List BodyLiteral) → names_variable text l ≡ true →
+  times-there : (l : BodyLiteral) (ls : List BodyLiteral) → names_variable d params text l ≡ true →
       times (l ∷ ls) ≡ 1 + times ls
   times-there l ls e = times-cons l ls ∙ ap (λ b. cond b 1 0 + times ls) e
 
-  times-gone : (l : BodyLiteral) (ls : List BodyLiteral) → names_variable text l ≡ false →
+  times-gone : (l : BodyLiteral) (ls : List BodyLiteral) → names_variable d params text l ≡ false →
       times (l ∷ ls) ≡ times ls
   times-gone l ls e =
       let count : times (l ∷ ls) ≡ 0 + times ls = times-cons l ls
@@ -35,18 +35,18 @@ module _ (text : List ℕ) where
 
   -- one literal: it doesn't name the variable, or it does and is negated, or it does and isn't
   data Step (k : ℕ) (l : BodyLiteral) : Type 0 where
-    gone : names_variable text l ≡ false → Step k l
-    free : names_variable text l ≡ true → is_negated l ≡ true → Step k l
-    tied : names_variable text l ≡ true → is_negated l ≡ false → Step k l
+    gone : names_variable d params text l ≡ false → Step k l
+    free : names_variable d params text l ≡ true → is_negated l ≡ true → Step k l
+    tied : names_variable d params text l ≡ true → is_negated l ≡ false → Step k l
 
   step-of : (k : ℕ) (l : BodyLiteral) → Step k l
-  step-of k l = elim (cases_Bool (names_variable text l)) [
+  step-of k l = elim (cases_Bool (names_variable d params text l)) [
     | inl named ↦ elim (cases_Bool (is_negated l)) [ inl n ↦ free named n | inr n ↦ tied named n ]
     | inr e ↦ gone e
   ]
 
   bound-stays : (k : ℕ) (ls : List BodyLiteral) →
-      is_loose_occurrence (behind_literals k ls text Bound) ≡ false
+      is_loose_occurrence (after_literals d params k ls text Bound) ≡ false
   bound-stays k [] = refl
   bound-stays k (l ∷ ls) = elim (step-of k l) [
     | gone e ↦ rw e (bound-stays (suc k) ls)
@@ -55,7 +55,7 @@ module _ (text : List ℕ) where
   ]
 
   loose-stays : (k : ℕ) (ls : List BodyLiteral) →
-      is_loose_occurrence (behind_literals k ls text Loose) ≡ list_all leaves_free ls
+      is_loose_occurrence (after_literals d params k ls text Loose) ≡ list_all leaves_free ls
   loose-stays k [] = refl
   loose-stays k (l ∷ ls) = elim (step-of k l) [
     | gone e ↦ rw e (loose-stays (suc k) ls)
@@ -74,19 +74,19 @@ module _ (text : List ℕ) where
   still_free m ls b c leaves e = ap (λ x. list_all leaves_free ls && x) e
       ∙ ap (λ x. (x && list_all leaves_free ls) && c) (sym leaves)
 
-  free-unnamed : (m : BodyLiteral) → names_variable text m ≡ false → leaves_free m ≡ true
+  free-unnamed : (m : BodyLiteral) → names_variable d params text m ≡ false → leaves_free m ≡ true
   free-unnamed m e = rw e refl
 
-  free-negated : (m : BodyLiteral) → names_variable text m ≡ true → is_negated m ≡ true →
+  free-negated : (m : BodyLiteral) → names_variable d params text m ≡ true → is_negated m ≡ true →
       leaves_free m ≡ true
   free-negated m e n = rw (e, n) refl
 
   inside-more : (k j : ℕ) (ls : List BodyLiteral) → j < k →
-      is_loose_occurrence (behind_literals k ls text (Inside j))
+      is_loose_occurrence (after_literals d params k ls text (Inside j))
       ≡ (list_all leaves_free ls && nat_lt 0 (times ls))
   inside-more k j [] l = refl
   inside-more k j (m ∷ ls) l = elim (step-of k m) [
-    | gone e ↦ (let first : is_loose_occurrence (behind_literals k (m ∷ ls) text (Inside j))
+    | gone e ↦ (let first : is_loose_occurrence (after_literals d params k (m ∷ ls) text (Inside j))
         ≡ (list_all leaves_free ls && nat_lt 0 (times ls)) =
         rw e (inside-more (suc k) j ls (omega arith)) in
         first ∙ still_free m ls (nat_lt 0 (times ls)) (nat_lt 0 (times (m ∷ ls)))
@@ -94,7 +94,7 @@ module _ (text : List ℕ) where
     | free e n ↦ (let count = times-there m ls e in
         let some : nat_lt 0 (times (m ∷ ls)) ≡ true = lt-ltb 0 (times (m ∷ ls)) (omega arith) in
         let apart : (j == k) ≡ false = ne_eqb j k (λ same. absurd (omega arith)) in
-        let first : is_loose_occurrence (behind_literals k (m ∷ ls) text (Inside j))
+        let first : is_loose_occurrence (after_literals d params k (m ∷ ls) text (Inside j))
         ≡ list_all leaves_free ls = rw (e, n, apart) (loose-stays (suc k) ls) in
         first ∙ sym (and_true (list_all leaves_free ls))
         ∙ still_free m ls true (nat_lt 0 (times (m ∷ ls))) (free-negated m e n) (sym some))
@@ -108,16 +108,16 @@ module _ (text : List ℕ) where
   ]
 
   nowhere-more : (k : ℕ) (ls : List BodyLiteral) →
-      is_loose_occurrence (behind_literals k ls text Nowhere)
+      is_loose_occurrence (after_literals d params k ls text Nowhere)
       ≡ (list_all leaves_free ls && nat_lt 1 (times ls))
   nowhere-more k [] = refl
   nowhere-more k (m ∷ ls) = elim (step-of k m) [
-    | gone e ↦ (let first : is_loose_occurrence (behind_literals k (m ∷ ls) text Nowhere)
+    | gone e ↦ (let first : is_loose_occurrence (after_literals d params k (m ∷ ls) text Nowhere)
         ≡ (list_all leaves_free ls && nat_lt 1 (times ls)) =
         rw e (nowhere-more (suc k) ls) in
         first ∙ still_free m ls (nat_lt 1 (times ls)) (nat_lt 1 (times (m ∷ ls)))
         (free-unnamed m e) (ap (nat_lt 1) (sym (times-gone m ls e))))
-    | free e n ↦ (let first : is_loose_occurrence (behind_literals k (m ∷ ls) text Nowhere)
+    | free e n ↦ (let first : is_loose_occurrence (after_literals d params k (m ∷ ls) text Nowhere)
         ≡ (list_all leaves_free ls && nat_lt 0 (times ls)) =
         rw (e, n) (inside-more (suc k) k ls (omega arith)) in
         first ∙ still_free m ls (nat_lt 0 (times ls)) (nat_lt 1 (times (m ∷ ls)))
@@ -125,12 +125,8 @@ module _ (text : List ℕ) where
     | tied e n ↦ rw (e, n) (bound-stays (suc k) ls)
   ]
 
-  -- a variable is loose exactly where it occurs so
-  pub loose_occurrence : (params : List Param) (clause : List BodyLiteral) →
-      is_loose_occurrence (occurrence_of params clause text)
-      ≡ (not (list_any (reads text) (param_names params))
-      && (list_all leaves_free clause && nat_lt 1 (times clause)))
-  loose_occurrence params clause = elim (cases_Bool (list_any (reads text) (param_names params))) [
-    | inl param ↦ rw param (bound-stays 0 clause)
-    | inr other ↦ rw other (nowhere-more 0 clause)
-  ]
+  -- it occurs loosely exactly where each literal that names it is negated, and there are several
+  pub loose_occurrence : (clause : List BodyLiteral) →
+      is_loose_occurrence (occurrence_of d params clause text)
+      ≡ (list_all leaves_free clause && nat_lt 1 (times clause))
+  loose_occurrence clause = nowhere-more 0 clause

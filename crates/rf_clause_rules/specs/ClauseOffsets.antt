@@ -9,7 +9,7 @@ use Rattle.rf_names.specs.Offsets.{offsets_in_clauses, offset_if, offsets_in_lit
 -- LooseVariable: the first names of the variables that can't be quantified
 
 abbrev pub loose_offsets : Declared → List ℕ
-loose_offsets d = offsets_in_clauses (λ n params clause. map (λ v. v.at) (loose_variables params clause)) 0 d.predicates
+loose_offsets d = offsets_in_clauses (λ n params clause. map (λ v. v.at) (loose_variables d params clause)) 0 d.predicates
 
 -- Recursive: symbols in literals of a predicate that stand for a predicate from which calls lead to it
 

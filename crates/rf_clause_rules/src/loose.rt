@@ -2,84 +2,71 @@
 
 ghost use Rattle.std.specs.Prelude.{◌≡◌, ◌&&◌, ℕ, List, IfOk, OnOk, map, not};
 ghost use Rattle.rf_names.specs.Bodies.{loose_variables};
+ghost use Rattle.rf_names.specs.Declarations.{is_among, param_names};
 ghost use Rattle.rf_names.specs.Offsets.{least_of, offset_if};
-ghost use Rattle.rf_names.specs.LookUp.{is_blank};
-ghost use Rattle.rf_clause_rules.specs.Occurrences.{behind_literals, is_loose_occurrence, occurrence_in, occurrence_of};
+ghost use Rattle.rf_names.specs.Texts.{is_blank};
+ghost use Rattle.rf_clause_rules.specs.Occurrences.{after_literals, is_loose_occurrence, occurrence_in, occurrence_of};
 ghost use Rattle.rf_clause_rules.specs.ClauseOffsets.{loose_offsets};
 
-use crate::occurrence::{Occurrence, add_literal, add_params, is_loose, occurrence_in};
+use crate::occurrence::{Occurrence, add_literal, is_loose, occurrence_in};
 use rf_names::{
-    ClauseDeclaration, ClauseRule, Names, Numbering, OffsetRule, is_blank, least_among_lent,
-    least_in_clauses, names_of_literals, offset_if,
+    Arguments, ClauseDeclaration, ClauseRule, Names, Numbering, OffsetRule, is_blank,
+    least_among_lent, least_in_clauses, names_of_literals, offset_if,
 };
-use rf_syntax::{BodyLiteral, Name, Param};
+use rf_syntax::{BodyLiteral, Name};
 use std::alloc::{AllocError, Global};
 use std::collections::BTreeMap;
 
 fn add_literals<'a>(
+    arguments: &Arguments,
     occurrences: &mut BTreeMap<&'a str, Occurrence>,
     literals: &[&'a BodyLiteral],
 ) -> Result<(), AllocError>
     ensures { OnOk result ((text : List ℕ) → occurrence_in occurrences.new text
-        ≡ behind_literals 0 (map (λ l. l.now) literals.now) text
-        (occurrence_in occurrences.old text)) }
+        ≡ after_literals arguments.now.names.now.declared.now arguments.now.params.now
+        0 (map (λ l. l.now) literals.now) text (occurrence_in occurrences.old text)) }
 {
     for (number, literal) in literals.iter().enumerate() {
-        add_literal(occurrences, number as u64, *literal)?;
+        add_literal(arguments, occurrences, number as u64, *literal)?;
     }
     Ok(())
 }
 
-// How each name occurs in a clause.
+// How each variable occurs in a clause.
 fn occurrences_of<'a>(
     alloc: Global,
-    params: &'a [Param],
+    arguments: &Arguments,
     literals: &[&'a BodyLiteral],
 ) -> Result<BTreeMap<&'a str, Occurrence>, AllocError>
     ensures { IfOk result (λ occurrences. (text : List ℕ) → occurrence_in occurrences text
-        ≡ occurrence_of params.now (map (λ l. l.now) literals.now) text) }
+        ≡ occurrence_of arguments.now.names.now.declared.now arguments.now.params.now
+        (map (λ l. l.now) literals.now) text) }
 {
     let mut occurrences = BTreeMap::new(alloc);
-    add_params(&mut occurrences, params)?;
-    add_literals(&mut occurrences, literals)?;
+    add_literals(arguments, &mut occurrences, literals)?;
     Ok(occurrences)
 }
 
 // The rule of names, by how they occur in a clause.
 #[derive(Drop)]
-struct LooseNames<'o, 'a> {
+struct LooseNames<'o, 'n, 'd, 'p, 'a> {
+    arguments: &'o Arguments<'n, 'd, 'p>,
     occurrences: &'o BTreeMap<&'a str, Occurrence>,
 }
 
-impl<'o, 'a> OffsetRule<Name> for LooseNames<'o, 'a> {
+impl<'o, 'n, 'd, 'p, 'a> OffsetRule<Name> for LooseNames<'o, 'n, 'd, 'p, 'a> {
     ghost offsets = { λ rule n.
         offset_if
-        (not (is_blank n) && is_loose_occurrence (occurrence_in rule.occurrences.now n.text))
+        (not (is_blank n)
+        && (not (is_among (param_names rule.arguments.now.params.now) n)
+        && is_loose_occurrence (occurrence_in rule.occurrences.now n.text)))
         n.at };
 
     fn least_in(&self, _alloc: Global, name: &Name) -> Result<Option<u64>, AllocError> {
         let occurrence = occurrence_in(self.occurrences, name.text.as_str());
-        Ok(offset_if(!is_blank(name) && is_loose(occurrence), name.at))
+        let broken = !is_blank(name) && !self.arguments.is_param(name) && is_loose(occurrence);
+        Ok(offset_if(broken, name.at))
     }
-}
-
-fn loose_in_clause<'a>(
-    alloc: Global,
-    params: &'a [Param],
-    clause: &ClauseDeclaration<'a>,
-) -> Result<Option<u64>, AllocError>
-    ensures { IfOk result (λ at. at
-        ≡ least_of (map (λ v. v.at) (loose_variables params.now clause.now))) }
-{
-    let literals = clause.literals.as_slice();
-    let names = names_of_literals(alloc, literals)?;
-    let firsts = Numbering::of_first(alloc, names.as_slice())?;
-    let occurrences = occurrences_of(alloc, params, literals)?;
-    let rule = LooseNames {
-        occurrences: &occurrences,
-    };
-    let least = least_among_lent(alloc, &rule, firsts.names.as_slice())?;
-    Ok(least)
 }
 
 // The rule of clauses.
@@ -87,16 +74,25 @@ fn loose_in_clause<'a>(
 struct LooseVariables {}
 
 impl ClauseRule for LooseVariables {
-    ghost clause_offsets = { λ rule params clause.
-        map (λ v. v.at) (loose_variables params clause) };
+    ghost clause_offsets = { λ rule d params clause.
+        map (λ v. v.at) (loose_variables d params clause) };
 
     fn least_in_clause(
         &self,
         alloc: Global,
-        params: &[Param],
+        arguments: &Arguments,
         clause: &ClauseDeclaration,
     ) -> Result<Option<u64>, AllocError> {
-        loose_in_clause(alloc, params, clause)
+        let literals = clause.literals.as_slice();
+        let names = names_of_literals(alloc, arguments, literals)?;
+        let firsts = Numbering::of_first(alloc, names.as_slice())?;
+        let occurrences = occurrences_of(alloc, arguments, literals)?;
+        let rule = LooseNames {
+            arguments,
+            occurrences: &occurrences,
+        };
+        let least = least_among_lent(alloc, &rule, firsts.names.as_slice())?;
+        Ok(least)
     }
 }
 
@@ -105,6 +101,5 @@ impl ClauseRule for LooseVariables {
 pub fn loose_variable(alloc: Global, names: &Names) -> Result<Option<u64>, AllocError>
     ensures { IfOk result (λ at. at ≡ least_of (loose_offsets names.now.declared.now)) }
 {
-    let declared = names.declared;
-    least_in_clauses(alloc, &LooseVariables {}, declared.predicates.as_slice())
+    least_in_clauses(alloc, &LooseVariables {}, names)
 }

@@ -1,11 +1,11 @@
 //! How variables occur in the literals of a clause.
 
 ghost use Rattle.std.specs.Prelude.{◌≡◌, ◌∷◌, [], ℕ, List, OnOk, false, if◌then◌else◌};
-ghost use Rattle.rf_names.specs.Bodies.{param_names};
-ghost use Rattle.rf_names.specs.LookUp.{reads};
-ghost use Rattle.rf_clause_rules.specs.Occurrences.{behind_literal, is_loose_occurrence, named_among, named_in, occurrence_in};
+ghost use Rattle.rf_names.specs.Texts.{reads};
+ghost use Rattle.rf_clause_rules.specs.Occurrences.{after_arguments, after_literal, is_loose_occurrence, named_in, occurrence_in};
 
-use rf_syntax::{BodyLiteral, Name, Param};
+use rf_names::Arguments;
+use rf_syntax::{BodyLiteral, Name};
 use std::alloc::AllocError;
 use std::collections::BTreeMap;
 
@@ -18,7 +18,7 @@ pub enum Occurrence {
     Inside(u64),
     /// In several, which are negated.
     Loose,
-    /// It is a parameter, or stands in one that isn't negated.
+    /// In one that isn't negated.
     Bound,
 }
 
@@ -73,63 +73,74 @@ fn add_name<'a>(
     Ok(())
 }
 
-fn add_names<'a>(
+// Adds an argument. One that stands for an atom is no variable.
+fn add_argument<'a>(
+    arguments: &Arguments,
+    occurrences: &mut BTreeMap<&'a str, Occurrence>,
+    literal: u64,
+    negated: bool,
+    name: &'a Name,
+) -> Result<(), AllocError>
+    ensures { OnOk result ((text : List ℕ) → occurrence_in occurrences.new text
+        ≡ after_arguments arguments.now.names.now.declared.now arguments.now.params.now
+        literal negated (name.now ∷ []) text (occurrence_in occurrences.old text)) }
+{
+    if arguments.is_atom(name) {
+        return Ok(());
+    }
+    add_name(occurrences, literal, negated, name)
+}
+
+fn add_arguments<'a>(
+    arguments: &Arguments,
     occurrences: &mut BTreeMap<&'a str, Occurrence>,
     literal: u64,
     negated: bool,
     names: &'a [Name],
 ) -> Result<(), AllocError>
     ensures { OnOk result ((text : List ℕ) → occurrence_in occurrences.new text
-        ≡ named_among literal negated names.now text (occurrence_in occurrences.old text)) }
+        ≡ after_arguments arguments.now.names.now.declared.now arguments.now.params.now
+        literal negated names.now text (occurrence_in occurrences.old text)) }
 {
     for name in names {
-        add_name(occurrences, literal, negated, name)?;
+        add_argument(arguments, occurrences, literal, negated, name)?;
     }
     Ok(())
 }
 
-/// Adds that these are parameters.
-pub fn add_params<'a>(
-    occurrences: &mut BTreeMap<&'a str, Occurrence>,
-    params: &'a [Param],
-) -> Result<(), AllocError>
-    ensures { OnOk result ((text : List ℕ) → occurrence_in occurrences.new text
-        ≡ named_among 0 false (param_names params.now) text (occurrence_in occurrences.old text)) }
-{
-    for param in params {
-        add_name(occurrences, 0, false, &param.name)?;
-    }
-    Ok(())
-}
-
+// Adds the two sides of a comparison.
 fn add_sides<'a>(
+    arguments: &Arguments,
     occurrences: &mut BTreeMap<&'a str, Occurrence>,
     literal: u64,
     a: &'a Name,
     b: &'a Name,
 ) -> Result<(), AllocError>
     ensures { OnOk result ((text : List ℕ) → occurrence_in occurrences.new text
-        ≡ named_among literal false (a.now ∷ b.now ∷ []) text (occurrence_in occurrences.old text)) }
+        ≡ after_arguments arguments.now.names.now.declared.now arguments.now.params.now
+        literal false (a.now ∷ b.now ∷ []) text (occurrence_in occurrences.old text)) }
 {
-    add_name(occurrences, literal, false, a)?;
-    add_name(occurrences, literal, false, b)
+    add_argument(arguments, occurrences, literal, false, a)?;
+    add_argument(arguments, occurrences, literal, false, b)
 }
 
-/// Adds the names in the literal of this number.
+/// Adds the variables that the literal of this number names.
 pub fn add_literal<'a>(
+    arguments: &Arguments,
     occurrences: &mut BTreeMap<&'a str, Occurrence>,
     number: u64,
     literal: &'a BodyLiteral,
 ) -> Result<(), AllocError>
     ensures { OnOk result ((text : List ℕ) → occurrence_in occurrences.new text
-        ≡ behind_literal number literal.now text (occurrence_in occurrences.old text)) }
+        ≡ after_literal arguments.now.names.now.declared.now arguments.now.params.now
+        number literal.now text (occurrence_in occurrences.old text)) }
 {
     match literal {
         BodyLiteral::Call { negated, args, .. } => {
-            add_names(occurrences, number, *negated, args.as_slice())
+            add_arguments(arguments, occurrences, number, *negated, args.as_slice())
         }
         BodyLiteral::Same(a, b) | BodyLiteral::Differ(a, b) => {
-            add_sides(occurrences, number, a, b)
+            add_sides(arguments, occurrences, number, a, b)
         }
     }
 }

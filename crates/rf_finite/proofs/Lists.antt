@@ -1,13 +1,21 @@
 -- Lemmas on tests over lists.
-use Rattle.std.proofs.Common.{◌≡◌, ℕ, suc, ◌+◌, ◌≤◌, ◌<◌, Bool, true, false, ◌||◌, List, [], ◌∷◌, length, get_or, take, drop, refl, sym, ap, ◌∙◌, inl, inr, arith, true≢false, add-one, drop-cons}
+use Rattle.std.proofs.Common.{◌≡◌, ℕ, suc, ◌+◌, ◌≤◌, ◌<◌, Bool, true, false, ◌||◌, List, [], ◌∷◌, Contains, length, get_or, take, drop, refl, sym, ap, ◌∙◌, inl, inr, arith, true≢false, add-one, drop-cons}
 use Rattle.std.proofs.lemmas.Bool.{and_parts, or_cases, or_left, or_right, cases_Bool, both_ways}
 use Rattle.std.proofs.lemmas.List.{length-take-le}
-use Rattle.std.proofs.lemmas.List.Folds.{list_any_more}
+use Rattle.std.proofs.lemmas.List.Folds.{Any-from_list_any, list_any-from_Any, list_any_more}
 use Rattle.std.proofs.lemmas.List.Sums.{count_by-le-length}
 use Rattle.std.specs.List.{list_any, list_all}
 use Rattle.std.specs.Prelude.{count_by, filter}
 
 module _ {X : Type 0} where
+  -- where an element passes, one that does can be named
+  pub one-from_list_any : (p : X → Bool) (xs : List X) → list_any p xs ≡ true → (x : X) × Contains xs x × (p x ≡ true)
+  one-from_list_any p xs h = let r = Any-from_list_any p xs h in (r.1, (r.0, r.2, r.3), r.4)
+
+  -- and where one that passes can be named, some does
+  pub list_any-from_one : (p : X → Bool) (xs : List X) (x : X) → Contains xs x → p x ≡ true → list_any p xs ≡ true
+  list_any-from_one p xs x c h = list_any-from_Any p xs (c.0, x, c.1, c.2, h)
+
   -- where all pass one test and some passes another, one passes both
   pub both-from_all_any : (p q : X → Bool) (xs : List X) → list_all p xs ≡ true → list_any q xs ≡ true → (x : X) × (p x ≡ true) × (q x ≡ true)
   both-from_all_any p q [] all any = absurd (true≢false (sym any))

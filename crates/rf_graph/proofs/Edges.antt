@@ -1,19 +1,10 @@
 -- Edges, computed and in words.
-use Rattle.std.proofs.Common.{◌≡◌, ℕ, Bool, true, ◌==◌, ◌&&◌, List, Contains, refl, subst}
-use Rattle.std.specs.List.{list_any}
+use Rattle.std.proofs.Common.{◌≡◌, ℕ, Bool, true, ◌==◌, ◌&&◌, Contains, refl, subst}
 use Rattle.std.proofs.lemmas.Bool.{and_parts, and_from, eqb-true, eq-eqb}
-use Rattle.std.proofs.lemmas.List.Folds.{Any-from_list_any, list_any-from_Any}
+use Rattle.rf_finite.proofs.Lists.{one-from_list_any, list_any-from_one}
 use Rattle.rf_graph.specs.Graph.{HasEdge, has_edge}
 use Rattle.rf_graph.specs.declared.graph.Edge.{Edge}
 use Rattle.rf_graph.specs.declared.graph.Graph.{Graph}
-
--- where an element passes, one that does can be named
-pub one-from_list_any : {X : Type 0} (p : X → Bool) (xs : List X) → list_any p xs ≡ true → (x : X) × Contains xs x × (p x ≡ true)
-one-from_list_any p xs h = let r = Any-from_list_any p xs h in (r.1, (r.0, r.2, r.3), r.4)
-
--- and where one that passes can be named, some does
-pub list_any-from_one : {X : Type 0} (p : X → Bool) (xs : List X) (x : X) → Contains xs x → p x ≡ true → list_any p xs ≡ true
-list_any-from_one p xs x c h = list_any-from_Any p xs (c.0, x, c.1, c.2, h)
 
 abbrev is_edge : ℕ → ℕ → ℕ → Edge → Bool
 is_edge r x y e = e.reference == r && (e.from == x && e.to == y)

@@ -1,6 +1,4 @@
-pub mod Atoms
 pub mod BadLines
-pub mod Chosen
 pub mod Documents
 pub mod Edges
 pub mod FirstOfAll
@@ -9,7 +7,6 @@ pub mod Firsts
 pub mod Grown
 pub mod Index
 pub mod Lines
-pub mod Literals
 pub mod Meaning
 pub mod ProblemNames
 pub mod Satisfying

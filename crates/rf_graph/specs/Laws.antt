@@ -6,7 +6,8 @@ use Rattle.rf_problem.specs.declared.symbol.Symbol.{Symbol}
 use Rattle.rf_graph.specs.Evaluate.{holds}
 use Rattle.rf_graph.specs.First.{first_violation}
 use Rattle.rf_graph.specs.Graph.{Fits}
-use Rattle.rf_graph.specs.Holds.{Holds, IsMeaning, Meaning}
+use Rattle.rf_problem.specs.Holds.{Meaning}
+use Rattle.rf_graph.specs.Holds.{Holds, IsMeaning}
 use Rattle.rf_graph.specs.Satisfied.{Satisfies}
 use Rattle.rf_graph.specs.Violations.{FirstViolation, Sat}
 use Rattle.rf_graph.specs.declared.graph.Graph.{Graph}

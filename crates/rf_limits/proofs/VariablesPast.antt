@@ -6,7 +6,8 @@ use Rattle.std.specs.Prelude.{if◌then◌else◌}
 use Rattle.std.proofs.lemmas.List.{drop_all, drop_more, length-map}
 use Rattle.rf_syntax.specs.declared.name.Name.{Name}
 use Rattle.rf_syntax.specs.declared.predicate.Param.{Param}
-use Rattle.rf_names.specs.Bodies.{is_variable_of, param_names, with_variable, with_variables}
+use Rattle.rf_names.specs.Bodies.{is_variable_of, with_variable, with_variables}
+use Rattle.rf_names.specs.Declarations.{param_names}
 use Rattle.rf_limits.specs.Limits.{first_past}
 use denote.Ref.{Bor}
 

@@ -36,7 +36,7 @@ limit_offsets d Scopes = first_past MOST_SCOPES (λ b. b.name) d.bounds
 limit_offsets d Parameters = flat_map (λ p. first_past MOST_PARAMETERS (λ param. param.name) p.params) d.predicates
 limit_offsets d Clauses = flat_map (λ p. first_past MOST_CLAUSES (λ name. name) (flat_map clause_name p.clauses)) d.predicates
 limit_offsets d Literals = offsets_in_clauses (λ n params clause. first_past MOST_LITERALS first_name clause) 0 d.predicates
-limit_offsets d Variables = offsets_in_clauses (λ n params clause. first_past MOST_VARIABLES (λ name. name) (clause_variables params clause)) 0 d.predicates
+limit_offsets d Variables = offsets_in_clauses (λ n params clause. first_past MOST_VARIABLES (λ name. name) (clause_variables d params clause)) 0 d.predicates
 limit_offsets d Objects = first_past MOST_OBJECTS (λ name. name) (named_objects d)
 limit_offsets d Assertions = first_past MOST_ASSERTIONS (λ a. a.atom.symbol.name) d.assertions
 

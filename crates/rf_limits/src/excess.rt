@@ -15,10 +15,10 @@ use rf_bounds::{
     MOST_PREDICATES, MOST_REFERENCES, MOST_SCOPES, MOST_VARIABLES,
 };
 use rf_names::{
-    ClauseDeclaration, ClauseRule, Names, OffsetRule, PredicateDeclaration, least_among,
+    Arguments, ClauseDeclaration, ClauseRule, Names, OffsetRule, PredicateDeclaration, least_among,
     least_in_clauses,
 };
-use rf_syntax::{Name, Param};
+use rf_syntax::Name;
 use std::alloc::{AllocError, Global};
 use std::marker::Model;
 
@@ -92,35 +92,35 @@ struct PastLiterals {}
 impl ClauseRule for PastLiterals {
     ghost use Rattle.rf_bounds.specs.declared.TheConstants.{MOST_LITERALS};
 
-    ghost clause_offsets = { λ rule params clause. first_past MOST_LITERALS first_name clause };
+    ghost clause_offsets = { λ rule d params clause. first_past MOST_LITERALS first_name clause };
 
     fn least_in_clause(
         &self,
         _alloc: Global,
-        _params: &[Param],
+        _arguments: &Arguments,
         clause: &ClauseDeclaration,
     ) -> Result<Option<u64>, AllocError> {
         Ok(past_lent(MOST_LITERALS, clause.literals.as_slice()))
     }
 }
 
-// The variables of a clause.
+// The variables of a clause. Atoms aren't among them.
 #[derive(Clone, Copy)]
 struct PastVariables {}
 
 impl ClauseRule for PastVariables {
     ghost use Rattle.rf_bounds.specs.declared.TheConstants.{MOST_VARIABLES};
 
-    ghost clause_offsets = { λ rule params clause.
-        first_past MOST_VARIABLES (λ name. name) (clause_variables params clause) };
+    ghost clause_offsets = { λ rule d params clause.
+        first_past MOST_VARIABLES (λ name. name) (clause_variables d params clause) };
 
     fn least_in_clause(
         &self,
         alloc: Global,
-        params: &[Param],
+        arguments: &Arguments,
         clause: &ClauseDeclaration,
     ) -> Result<Option<u64>, AllocError> {
-        variables_past(alloc, MOST_VARIABLES, params, clause)
+        variables_past(alloc, MOST_VARIABLES, arguments, clause)
     }
 }
 
@@ -172,8 +172,8 @@ fn offset_past(alloc: Global, names: &Names<'_>, kind: LimitKind) -> Result<Opti
         LimitKind::Scopes => past_lent(MOST_SCOPES, declared.bounds.as_slice()),
         LimitKind::Parameters => least_among(alloc, &PastParameters {}, predicates)?,
         LimitKind::Clauses => least_among(alloc, &PastClauses {}, predicates)?,
-        LimitKind::Literals => least_in_clauses(alloc, &PastLiterals {}, predicates)?,
-        LimitKind::Variables => least_in_clauses(alloc, &PastVariables {}, predicates)?,
+        LimitKind::Literals => least_in_clauses(alloc, &PastLiterals {}, names)?,
+        LimitKind::Variables => least_in_clauses(alloc, &PastVariables {}, names)?,
         LimitKind::Objects => past_lent(MOST_OBJECTS, names.objects()),
         LimitKind::Assertions => past(MOST_ASSERTIONS, declared.assertions.as_slice()),
     })

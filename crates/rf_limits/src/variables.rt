@@ -3,13 +3,13 @@
 ghost use Rattle.std.specs.Prelude.{◌≡◌, IfOk, OnOk, map};
 ghost use Rattle.std.specs.List.{list_any};
 ghost use Rattle.rf_names.specs.Bodies.{clause_variables, is_variable_of, with_variable, with_variables};
-ghost use Rattle.rf_names.specs.LookUp.{reads};
+ghost use Rattle.rf_names.specs.Texts.{reads};
 ghost use Rattle.rf_names.specs.Offsets.{least_of};
 ghost use Rattle.rf_limits.specs.Limits.{first_past};
 
 use crate::named::{past, past_lent};
-use rf_names::{ClauseDeclaration, names_of_literals, names_of_params};
-use rf_syntax::{Name, Param};
+use rf_names::{Arguments, ClauseDeclaration, names_of_literals, names_of_params};
+use rf_syntax::Name;
 use std::alloc::{AllocError, Global};
 
 fn is_named(known: &[&Name], name: &Name) -> bool
@@ -64,16 +64,18 @@ fn past_known<'a>(
 pub fn variables_past(
     alloc: Global,
     limit: usize,
-    params: &[Param],
-    clause: &ClauseDeclaration<'_>,
+    arguments: &Arguments,
+    clause: &ClauseDeclaration,
 ) -> Result<Option<u64>, AllocError>
     ensures { IfOk result (λ at. at
-        ≡ least_of (first_past limit (λ name. name) (clause_variables params.now clause.now))) }
+        ≡ least_of (first_past limit (λ name. name) (clause_variables arguments.now.names.now.declared.now
+        arguments.now.params.now clause.now))) }
 {
+    let params = arguments.params;
     if params.len() > limit {
         return Ok(past(limit, params));
     }
     let known = names_of_params(alloc, params)?;
-    let names = names_of_literals(alloc, clause.literals.as_slice())?;
+    let names = names_of_literals(alloc, arguments, clause.literals.as_slice())?;
     past_known(limit, known, names.as_slice())
 }

@@ -19,10 +19,10 @@ use Rattle.rf_syntax.specs.declared.range.Range.{Range}
 use Rattle.rf_syntax.specs.declared.class.MultPlace.{MultPlace}
 use Rattle.rf_problem.specs.declared.symbol.Symbol.{Symbol}
 use Rattle.rf_problem.specs.declared.symbol.Symbol.TheVariants.{Equals}
-use Rattle.rf_names.specs.LookUp.{is_text_of, is_blank, class_named, reads, opposites_named, literal_symbols, sense_of, predicate_named, class_decl_at, assertion_symbols, extends_somehow, opposite_of, can_be_closed, parameters_of}
+use Rattle.rf_names.specs.Texts.{is_blank, is_text_of, reads}
+use Rattle.rf_names.specs.LookUp.{has_new, is_literal_of, class_named, opposites_named, literal_symbols, sense_of, predicate_named, class_decl_at, assertion_symbols, extends_somehow, opposite_of, can_be_closed, parameters_of}
 use Rattle.rf_names.specs.Offsets.{offset_if, offsets_from, offsets_in_literals}
-use Rattle.rf_names.specs.Declarations.{ClassDecl, PredicateDecl, Declared, ReferenceDecl, AssertDecl, kind_of_word}
-use Rattle.rf_names.specs.Bodies.{param_names}
+use Rattle.rf_names.specs.Declarations.{ClassDecl, PredicateDecl, Declared, ReferenceDecl, AssertDecl, kind_of_word, object_name, param_names}
 use Rattle.rf_names.specs.declared.sense.Sense.{Sense}
 use Rattle.rf_names.specs.declared.sense.Sense.TheVariants.{Nothing, One, Several}
 
@@ -59,6 +59,15 @@ twice_offsets d =
 -- a name that isn't a class
 abbrev pub unknown_class : Declared → Name → List ℕ
 unknown_class d n = offset_if (is_none (class_named d n.text)) n.at
+
+-- whether the class of this number is there and isn't an enum
+abbrev pub can_be_extended : Declared → Option ℕ → Bool
+can_be_extended d None = false
+can_be_extended d (Some c) = not (class_decl_at d c).is_enum
+
+-- a name after `extends` that isn't a class, or is an enum
+abbrev pub unknown_super : Declared → Name → List ℕ
+unknown_super d n = offset_if (not (can_be_extended d (class_named d n.text))) n.at
 
 abbrev pub unknown_param_class : Declared → Option Name → List ℕ
 unknown_param_class d None = []
@@ -100,20 +109,23 @@ abbrev pub is_no_object : Declared → Name → Bool
 is_no_object d n =
     is_some (class_named d n.text) || (is_some (predicate_named d n.text) || (is_blank n || is_text_of reserved_names n))
 
--- whether the class of this number is abstract
-abbrev pub is_abstract_class : Declared → Option ℕ → Bool
-is_abstract_class d None = false
-is_abstract_class d (Some c) = (class_decl_at d c).is_abstract
+-- whether the class of this number has no object that its new nodes come from: it is abstract or an enum
+abbrev pub has_no_new : Declared → Option ℕ → Bool
+has_no_new d None = false
+has_no_new d (Some c) = not (has_new (class_decl_at d c))
 
--- an argument that stands for no object: a name that can't be one; or after a name that isn't a class,
--- or an abstract one, or with a member other than `new`, the class's name or the member's
+-- a member after a class in an argument: `new` of a class that has no new object, at the class; another that isn't a literal
+-- of that class, at the member
+abbrev pub unknown_member : Declared → Name → Name → List ℕ
+unknown_member d name member =
+    if reads (codes "new") member
+    then offset_if (has_no_new d (class_named d name.text)) name.at
+    else offset_if (not (is_literal_of d (class_named d name.text) member.text)) member.at
+
+-- an argument that stands for no object: a name that can't be one; or a name before `::` that isn't a class, or what follows it
 abbrev pub unknown_object : Declared → Name → Option Name → List ℕ
 unknown_object d name None = offset_if (is_no_object d name) name.at
-unknown_object d name (Some member) =
-    unknown_class d name
-    ++ (if reads (codes "new") member
-    then offset_if (is_abstract_class d (class_named d name.text)) name.at
-    else member.at ∷ [])
+unknown_object d name (Some member) = unknown_class d name ++ unknown_member d name member
 
 abbrev pub unknown_arg : Declared → Arg → List ℕ
 unknown_arg d Star = []
@@ -129,7 +141,7 @@ unknown_reference d r = unknown_class d r.feature.target ++ unknown_opposite d r
 
 abbrev pub unknown_offsets : Declared → List ℕ
 unknown_offsets d =
-    flat_map (λ c. flat_map (unknown_class d) c.supers) d.classes
+    flat_map (λ c. flat_map (unknown_super d) c.supers) d.classes
     ++ flat_map (unknown_reference d) d.references
     ++ flat_map (λ p. flat_map (λ param. unknown_param_class d param.class) p.params) d.predicates
     ++ flat_map (λ b. unknown_bound d b.name) d.bounds
@@ -293,15 +305,16 @@ abbrev pub is_equals : Sense → Bool
 is_equals (One Equals) = true
 is_equals _ = false
 
--- whether two members are the same, or neither is there
-abbrev pub is_same_member : Option Name → Option Name → Bool
-is_same_member None None = true
-is_same_member (Some m) (Some n) = bytes_eq m.text n.text
-is_same_member _ _ = false
+-- whether these are the names of the same object, or neither is there and the classes have the same name
+abbrev pub is_same_name : Option Name → Option Name → Bool → Bool
+is_same_name None None same_class = same_class
+is_same_name (Some m) (Some n) same_class = bytes_eq m.text n.text
+is_same_name _ _ same_class = false
 
--- whether two arguments are the same object
+-- whether two arguments are the same object: a named one, or the new object of a class
 abbrev pub is_same_object : Arg → Arg → Bool
-is_same_object (OfSymbol s) (OfSymbol t) = bytes_eq s.name.text t.name.text && is_same_member s.member t.member
+is_same_object (OfSymbol s) (OfSymbol t) =
+    is_same_name (object_name s.name s.member) (object_name t.name t.member) (bytes_eq s.name.text t.name.text)
 is_same_object _ _ = false
 
 abbrev pub is_twice : List Arg → Bool

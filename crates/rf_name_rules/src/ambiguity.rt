@@ -93,7 +93,7 @@ pub fn ambiguous(alloc: Global, names: &Names) -> Result<Option<u64>, AllocError
     let rule = AmbiguousNames { names };
     let declared = names.declared;
     let references = least_among(alloc, &rule, declared.references.as_slice())?;
-    let literals = least_in_literals(alloc, &rule, declared.predicates.as_slice())?;
+    let literals = least_in_literals(alloc, &rule, names)?;
     let assertions = least_among(alloc, &rule, declared.assertions.as_slice())?;
     Ok(lesser(lesser(references, literals), assertions))
 }

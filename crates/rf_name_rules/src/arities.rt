@@ -103,7 +103,7 @@ pub fn arity(alloc: Global, names: &Names) -> Result<Option<u64>, AllocError>
 {
     let rule = Arities { names };
     let declared = names.declared;
-    let literals = least_in_literals(alloc, &rule, declared.predicates.as_slice())?;
+    let literals = least_in_literals(alloc, &rule, names)?;
     let assertions = least_among(alloc, &rule, declared.assertions.as_slice())?;
     Ok(lesser(literals, assertions))
 }

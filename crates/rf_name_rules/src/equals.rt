@@ -1,12 +1,14 @@
 //! Assertions of `equals` whose arguments aren't the same object named twice.
 
 ghost use Rattle.std.specs.Prelude.{◌≡◌, IfOk};
+ghost use Rattle.std.specs.Str.{bytes_eq};
+ghost use Rattle.rf_names.specs.Declarations.{object_name};
 ghost use Rattle.rf_names.specs.Offsets.{least_of};
-ghost use Rattle.rf_name_rules.specs.RuleOffsets.{equals_two, equals_two_offsets, is_equals, is_same_member, is_same_object, is_twice};
+ghost use Rattle.rf_name_rules.specs.RuleOffsets.{equals_two, equals_two_offsets, is_equals, is_same_name, is_same_object, is_twice};
 
-use rf_names::{AssertDeclaration, Names, OffsetRule, Sense, least_among, offset_if};
+use rf_names::{AssertDeclaration, Names, OffsetRule, Sense, least_among, object_name, offset_if};
 use rf_problem::Symbol;
-use rf_syntax::{Arg, Name};
+use rf_syntax::{Arg, SymbolName};
 use std::alloc::{AllocError, Global};
 
 /// The least offset of an `equals` of two objects.
@@ -56,19 +58,20 @@ fn is_same_object(first: &Arg, second: &Arg) -> bool
     ensures { result ≡ is_same_object first.now second.now }
 {
     match (first, second) {
-        (Arg::Symbol(s), Arg::Symbol(t)) => {
-            s.name.text.as_str() == t.name.text.as_str() && is_same_member(&s.member, &t.member)
-        }
+        (Arg::Symbol(s), Arg::Symbol(t)) => is_same_symbol(s, t),
         _ => false,
     }
 }
 
-fn is_same_member(first: &Option<Name>, second: &Option<Name>) -> bool
-    ensures { result ≡ is_same_member first.now second.now }
+// Whether two symbols stand for the same named object, or for the new object of the same class.
+fn is_same_symbol(first: &SymbolName, second: &SymbolName) -> bool
+    ensures { result ≡ is_same_name
+        (object_name first.now.name first.now.member) (object_name second.now.name second.now.member)
+        (bytes_eq first.now.name.text second.now.name.text) }
 {
-    match (first, second) {
+    match (object_name(first), object_name(second)) {
         (Some(m), Some(n)) => m.text.as_str() == n.text.as_str(),
-        (None, None) => true,
+        (None, None) => first.name.text.as_str() == second.name.text.as_str(),
         _ => false,
     }
 }

@@ -1,9 +1,9 @@
 //! Names that are declared earlier in their space, or are reserved there.
 
 ghost use Rattle.std.specs.Prelude.{◌≡◌, [], IfOk, map, filter, not};
-ghost use Rattle.rf_names.specs.Bodies.{param_names};
+ghost use Rattle.rf_names.specs.Declarations.{param_names};
 ghost use Rattle.rf_names.specs.Offsets.{least_of};
-ghost use Rattle.rf_names.specs.LookUp.{is_blank, is_text_of};
+ghost use Rattle.rf_names.specs.Texts.{is_blank, is_text_of};
 ghost use Rattle.rf_name_rules.specs.RuleOffsets.{feature_names, reserved_members, reserved_names, params_apart, repeated, twice_offsets};
 
 use rf_names::{

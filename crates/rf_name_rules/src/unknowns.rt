@@ -1,10 +1,11 @@
 //! Names that stand for nothing of the kind that is needed where they stand.
 
-ghost use Rattle.std.specs.Prelude.{◌≡◌, ◌∷◌, [], IfOk, codes, slice_index_or, if◌then◌else◌};
+ghost use Rattle.std.specs.Prelude.{◌≡◌, IfOk, slice_index_or};
 ghost use Rattle.std.specs.List.{flat_map};
-ghost use Rattle.rf_names.specs.LookUp.{assertion_symbols, class_named, is_text_of, no_class_decl, reads, sense_of};
+ghost use Rattle.rf_names.specs.LookUp.{assertion_symbols, has_new, no_class_decl, sense_of};
+ghost use Rattle.rf_names.specs.Texts.{is_text_of};
 ghost use Rattle.rf_names.specs.Offsets.{least_of, offset_if};
-ghost use Rattle.rf_name_rules.specs.RuleOffsets.{is_abstract_class, is_no_object, is_unknown, reserved_names, unknown_arg, unknown_assertion, unknown_bound, unknown_class, unknown_literal, unknown_object, unknown_offsets, unknown_opposite, unknown_param_class, unknown_reference, unknown_symbol};
+ghost use Rattle.rf_name_rules.specs.RuleOffsets.{can_be_extended, has_no_new, is_no_object, is_unknown, reserved_names, unknown_arg, unknown_assertion, unknown_bound, unknown_class, unknown_literal, unknown_member, unknown_object, unknown_offsets, unknown_opposite, unknown_param_class, unknown_reference, unknown_super, unknown_symbol};
 
 use rf_names::{
     AssertDeclaration, ClassDeclaration, Names, OffsetRule, PredicateDeclaration,
@@ -24,7 +25,7 @@ pub fn unknown(alloc: Global, names: &Names) -> Result<Option<u64>, AllocError>
     let references = least_among(alloc, &rule, declared.references.as_slice())?;
     let predicates = least_among(alloc, &rule, declared.predicates.as_slice())?;
     let bounds = least_among_lent(alloc, &rule, declared.bounds.as_slice())?;
-    let literals = least_in_literals(alloc, &rule, declared.predicates.as_slice())?;
+    let literals = least_in_literals(alloc, &rule, names)?;
     let assertions = least_among(alloc, &rule, declared.assertions.as_slice())?;
     let earlier = lesser(lesser(lesser(classes, references), predicates), bounds);
     Ok(lesser(lesser(earlier, literals), assertions))
@@ -36,18 +37,17 @@ struct UnknownNames<'n, 'a> {
     names: &'n Names<'a>,
 }
 
-// A name that is to be a class.
+// A name after `extends`.
 impl<'n, 'a> OffsetRule<Name> for UnknownNames<'n, 'a> {
-    ghost offsets = { λ rule. unknown_class rule.names.now.declared.now };
+    ghost offsets = { λ rule. unknown_super rule.names.now.declared.now };
 
     fn least_in(&self, _alloc: Global, name: &Name) -> Result<Option<u64>, AllocError> {
-        Ok(unknown_class(self.names, name))
+        Ok(unknown_super(self.names, name))
     }
 }
 
-// The names after `extends`.
 impl<'n, 'a> OffsetRule<ClassDeclaration<'a>> for UnknownNames<'n, 'a> {
-    ghost offsets = { λ rule c. flat_map (unknown_class rule.names.now.declared.now) c.supers };
+    ghost offsets = { λ rule c. flat_map (unknown_super rule.names.now.declared.now) c.supers };
 
     fn least_in(
         &self,
@@ -149,6 +149,32 @@ fn unknown_class(names: &Names, name: &Name) -> Option<u64>
     offset_if(names.class_named(name.text.as_str()).is_none(), name.at)
 }
 
+fn is_enum_at(classes: &[ClassDeclaration], number: u32) -> bool
+    ensures { result ≡ (slice_index_or classes.now number no_class_decl).is_enum }
+{
+    match classes.get(number as usize) {
+        None => false,
+        Some(class) => class.is_enum,
+    }
+}
+
+fn can_be_extended(names: &Names, class: Option<u32>) -> bool
+    ensures { result ≡ can_be_extended names.now.declared.now class }
+{
+    let declared = names.declared;
+    match class {
+        None => false,
+        Some(number) => !is_enum_at(declared.classes.as_slice(), number),
+    }
+}
+
+fn unknown_super(names: &Names, name: &Name) -> Option<u64>
+    ensures { result ≡ least_of (unknown_super names.now.declared.now name.now) }
+{
+    let class = names.class_named(name.text.as_str());
+    offset_if(!can_be_extended(names, class), name.at)
+}
+
 fn unknown_opposite(
     alloc: Global,
     names: &Names,
@@ -225,22 +251,35 @@ fn is_no_object(names: &Names, name: &Name) -> bool
         || is_reserved(name)
 }
 
-fn is_abstract_at(classes: &[ClassDeclaration], number: u32) -> bool
-    ensures { result ≡ (slice_index_or classes.now number no_class_decl).is_abstract }
+fn has_new_at(classes: &[ClassDeclaration], number: u32) -> bool
+    ensures { result ≡ has_new (slice_index_or classes.now number no_class_decl) }
 {
     match classes.get(number as usize) {
-        None => false,
-        Some(class) => class.is_abstract,
+        None => true,
+        Some(class) => !class.is_abstract && !class.is_enum,
     }
 }
 
-fn is_abstract_class(names: &Names, class: Option<u32>) -> bool
-    ensures { result ≡ is_abstract_class names.now.declared.now class }
+fn has_no_new(names: &Names, class: Option<u32>) -> bool
+    ensures { result ≡ has_no_new names.now.declared.now class }
 {
     let declared = names.declared;
     match class {
         None => false,
-        Some(number) => is_abstract_at(declared.classes.as_slice(), number),
+        Some(number) => !has_new_at(declared.classes.as_slice(), number),
+    }
+}
+
+// What follows the class of this name.
+fn unknown_member(names: &Names, name: &Name, member: &Name) -> Option<u64>
+    ensures { result ≡ least_of (unknown_member names.now.declared.now name.now member.now) }
+{
+    let class = names.class_named(name.text.as_str());
+    let text = member.text.as_str();
+    if text == "new" {
+        offset_if(has_no_new(names, class), name.at)
+    } else {
+        offset_if(!names.is_literal_of(class, text), member.at)
     }
 }
 
@@ -251,27 +290,10 @@ fn unknown_object(names: &Names, symbol: &SymbolName) -> Option<u64>
 {
     match &symbol.member {
         None => offset_if(is_no_object(names, &symbol.name), symbol.name.at),
-        Some(member) => {
-            let class = unknown_class(names, &symbol.name);
-            lesser(class, unknown_new(names, &symbol.name, member))
-        }
-    }
-}
-
-fn unknown_new(names: &Names, name: &Name, member: &Name) -> Option<u64>
-    ensures { result ≡ least_of (
-        if reads (codes "new") member.now
-        then offset_if
-        (is_abstract_class names.now.declared.now
-        (class_named names.now.declared.now name.now.text))
-        name.now.at
-        else member.now.at ∷ []) }
-{
-    if member.text.as_str() == "new" {
-        let class = names.class_named(name.text.as_str());
-        offset_if(is_abstract_class(names, class), name.at)
-    } else {
-        Some(member.at)
+        Some(member) => lesser(
+            unknown_class(names, &symbol.name),
+            unknown_member(names, &symbol.name, member),
+        ),
     }
 }
 

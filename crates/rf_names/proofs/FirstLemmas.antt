@@ -6,11 +6,12 @@ use Rattle.std.proofs.lemmas.Iterator.Adapters.{position_from-zero}
 use Rattle.std.proofs.lemmas.List.{append-nil, map-append, take_more}
 use Rattle.std.proofs.lemmas.Slice.Eq.{bytes_eq-Decides}
 use Rattle.std.specs.List.{list_any, position, position_from}
-use Rattle.std.specs.Option.{is_none}
+use Rattle.std.specs.Option.{is_none, is_some}
 use Rattle.std.specs.Str.{bytes_eq}
 use denote.Ref.{Bor}
 use Rattle.rf_syntax.specs.declared.name.Name.{Name}
-use Rattle.rf_names.specs.LookUp.{first_of_each, is_text_of, reads}
+use Rattle.rf_names.specs.LookUp.{first_of_each}
+use Rattle.rf_names.specs.Texts.{is_text_of, reads}
 
 bytes_eq-sym : (xs ys : List ℕ) → bytes_eq xs ys ≡ bytes_eq ys xs
 bytes_eq-sym xs ys = elim (cases_Bool (bytes_eq xs ys)) [
@@ -44,6 +45,14 @@ any_position_from p i (x ∷ xs) = elim (cases_Bool (p x)) [ inl passes ↦ rw p
 
 any_position : {T : Type 0} (p : T → Bool) (xs : List T) → is_none (position p xs) ≡ not (list_any p xs)
 any_position p xs = ap is_none (position_from-zero p xs) ∙ any_position_from p 0 xs
+
+some_position_from : {T : Type 0} (p : T → Bool) (i : ℕ) (xs : List T) → is_some (position_from p i xs) ≡ list_any p xs
+some_position_from p i [] = refl
+some_position_from p i (x ∷ xs) = elim (cases_Bool (p x)) [ inl passes ↦ rw passes refl | inr fails ↦ rw fails (some_position_from p (i + 1) xs) ]
+
+-- whether there is a position
+pub some_position : {T : Type 0} (p : T → Bool) (xs : List T) → is_some (position p xs) ≡ list_any p xs
+some_position p xs = ap is_some (position_from-zero p xs) ∙ some_position_from p 0 xs
 
 not_true : (b : Bool) → not b ≡ true → b ≡ false
 not_true true h = cc

@@ -4,7 +4,8 @@ use Rattle.std.proofs.lemmas.List.Quantifiers.{position-Some}
 use Rattle.std.specs.List.{position, slice_get}
 use Rattle.std.specs.Option.{IfSome}
 use Rattle.rf_names.specs.Declarations.{Declared}
-use Rattle.rf_names.specs.LookUp.{class_named, no_class_decl, reads, the_first}
+use Rattle.rf_names.specs.LookUp.{class_named, no_class_decl, the_first}
+use Rattle.rf_names.specs.Texts.{reads}
 
 some_fits : {X : Type 0} (p : X → Bool) (xs : List X) (d : X) (o : Option ℕ) → position p xs ≡ o → IfSome o (λ c. c < length xs)
 some_fits p xs d None is = tt

@@ -1,3 +1,4 @@
+pub mod AtomLemmas
 pub mod FirstLemmas
 pub mod FoundLemmas
 pub mod Gathered
@@ -6,6 +7,7 @@ pub mod ListedLemmas
 pub mod MapLemmas
 pub mod NamedLemmas
 pub mod NumberLemmas
+pub mod OwnerLemmas
 pub mod RankLemmas
 pub mod References
 pub mod SuperLemmas

@@ -7,7 +7,8 @@ use Rattle.std.proofs.lemmas.Option.{slice_get-get_or}
 use Rattle.std.specs.Str.{bytes_eq}
 use Rattle.rf_syntax.specs.declared.name.Name.{Name}
 use Rattle.rf_names.specs.Declarations.{ReferenceDecl}
-use Rattle.rf_names.specs.LookUp.{numbers_where, reads}
+use Rattle.rf_names.specs.LookUp.{numbers_where}
+use Rattle.rf_names.specs.Texts.{reads}
 use Rattle.rf_names.specs.Tables.{passes_at, some_passes}
 
 -- one item more

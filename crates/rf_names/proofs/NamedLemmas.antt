@@ -1,6 +1,6 @@
 -- What the tables of names say of what is declared.
 use Rattle.std.proofs.Common.{◌≡◌, ◌∙◌, ℕ, ◌<◌, ◌≤◌, ◌^◌, Bool, true, false, ◌==◌, ◌&&◌, List, [], ◌∷◌, length, take, get_or, map, filter, Option, None, Some, refl, sym, ap, arith, inl, inr, nat_lt}
-use Rattle.std.specs.Prelude.{option_map, slice_get, not}
+use Rattle.std.specs.Prelude.{option_map, slice_get}
 use Rattle.std.proofs.lemmas.Bool.{cases_Bool, cases_lt, lt-ltb}
 use Rattle.std.proofs.lemmas.List.{length-map, length-take, take_all}
 use Rattle.std.proofs.lemmas.List.Folds.{find_at}
@@ -12,7 +12,8 @@ use denote.Ref.{Bor}
 use Rattle.rf_syntax.specs.declared.name.Name.{Name}
 use Rattle.rf_syntax.specs.declared.statement.Item.{Item}
 use Rattle.rf_names.specs.Declarations.{ClassDecl, Declared, ReferenceDecl}
-use Rattle.rf_names.specs.LookUp.{class_named, extends_somehow, inherited_members, item_named, members_of_some, no_name, numbers_where, own_members, own_or_inherited, predicate_named, reads, references_named}
+use Rattle.rf_names.specs.LookUp.{class_named, extends_somehow, has_new, inherited_members, item_named, members_of_some, no_name, numbers_where, own_members, own_or_inherited, predicate_named, references_named}
+use Rattle.rf_names.specs.Texts.{reads}
 use Rattle.rf_names.specs.Tables.{AreCounts, passes_at}
 use Rattle.rf_names.proofs.ListedLemmas.{numbers_passing, numbers_where-map, numbers_where-same}
 use Rattle.rf_names.proofs.SuperLemmas.{marks_everywhere, position-map}
@@ -34,13 +35,13 @@ pub references_found :
 references_found d text numbers are = are ∙ numbers_where-map 0 (reads text) (λ r. r.feature.name) d.references
 
 -- the number found is that of an item
-position_there : {T : Type 0} (p : T → Bool) (xs : List T) (n : ℕ) → position p xs ≡ Some n → position_or_len p xs ≡ n
+pub position_there : {T : Type 0} (p : T → Bool) (xs : List T) (n : ℕ) → position p xs ≡ Some n → position_or_len p xs ≡ n
 position_there p xs n found = elim (cases_Bool (nat_lt (position_or_len p xs) (length xs))) [
   | inl within ↦ (let here : position p xs ≡ Some (position_or_len p xs) = rw within refl in cc)
   | inr past ↦ (let none : position p xs ≡ None = rw past refl in cc)
 ]
 
-position_missing : {T : Type 0} (p : T → Bool) (xs : List T) → position p xs ≡ None → length xs ≤ position_or_len p xs
+pub position_missing : {T : Type 0} (p : T → Bool) (xs : List T) → position p xs ≡ None → length xs ≤ position_or_len p xs
 position_missing p xs none = elim (cases_lt (position_or_len p xs) (length xs)) [
   | inl within ↦ (let test : nat_lt (position_or_len p xs) (length xs) ≡ true = lt-ltb (position_or_len p xs) (length xs) within in
       let here : position p xs ≡ Some (position_or_len p xs) = rw test refl in cc)
@@ -92,7 +93,7 @@ pub counts_below :
     (classes : List ClassDecl) (counts : List ℕ) (c : ℕ) → AreCounts classes (length classes) counts → c < length classes → length classes < 2 ^ 32 →
     get_or counts c 0 < 2 ^ 32
 counts_below classes counts c are within few =
-    let least = count_by-le-length (λ k. not k.is_abstract) (take c classes) in
+    let least = count_by-le-length has_new (take c classes) in
     omega (arith, are.each c within, least, length-take c classes)
 
 -- members that the class declares itself

@@ -11,7 +11,7 @@ use Rattle.std.specs.Option.{is_some, option_or}
 use Rattle.std.specs.Str.{bytes_eq}
 use denote.Ref.{Bor}
 use Rattle.rf_syntax.specs.declared.name.Name.{Name}
-use Rattle.rf_names.specs.LookUp.{reads}
+use Rattle.rf_names.specs.Texts.{reads}
 use Rattle.rf_names.specs.Tables.{AreNumbered, number_in}
 
 or_none : {T : Type 0} (o : Option T) → option_or o None ≡ o

@@ -11,7 +11,8 @@ use Rattle.rf_closure.specs.Along.{leads}
 use Rattle.rf_finite.specs.Walks.{walk_below}
 use Rattle.rf_syntax.specs.declared.name.Name.{Name}
 use Rattle.rf_names.specs.Declarations.{ClassDecl, Declared}
-use Rattle.rf_names.specs.LookUp.{class_decl_at, class_named, extends_directly, extends_somehow, is_number, no_class_decl, reads}
+use Rattle.rf_names.specs.LookUp.{class_decl_at, class_named, extends_directly, extends_somehow, is_number, no_class_decl}
+use Rattle.rf_names.specs.Texts.{reads}
 use Rattle.rf_names.specs.Tables.{numbers_among}
 
 position_from-map :

@@ -1,13 +1,14 @@
 -- The variables of a clause and their numbers.
-use Rattle.std.proofs.Common.{◌≡◌, ℕ, suc, ◌≤◌, ◌<◌, Bool, true, false, not, List, [], ◌∷◌, ◌++◌, length, refl, sym, ap, inl, inr, arith, true≢false}
+use Rattle.std.proofs.Common.{◌≡◌, ◌≤◌, ◌<◌, Bool, true, false, not, List, [], ◌∷◌, ◌++◌, length, refl, sym, inl, inr, arith, true≢false}
 use Rattle.std.specs.Prelude.{nat_lt, position}
-use Rattle.std.specs.List.{list_all, list_any, position_or_len}
+use Rattle.std.specs.List.{list_any, position_or_len}
 use Rattle.std.specs.Option.{is_none}
-use Rattle.std.proofs.lemmas.Bool.{and_from, and_parts, both_ways, cases_Bool, lt-ltb, ltb-true, or_cases}
+use Rattle.std.proofs.lemmas.Bool.{and_parts, both_ways, cases_Bool, lt-ltb, ltb-true, or_cases}
 use Rattle.std.proofs.lemmas.List.{length-append}
 use Rattle.rf_syntax.specs.declared.name.Name.{Name}
-use Rattle.rf_names.specs.Bodies.{is_variable_of, variable_number, variable_numbers, with_variable, with_variables}
-use Rattle.rf_names.specs.LookUp.{is_blank, reads, the_number}
+use Rattle.rf_names.specs.Bodies.{is_variable_of, variable_number, with_variable, with_variables}
+use Rattle.rf_names.specs.LookUp.{the_number}
+use Rattle.rf_names.specs.Texts.{is_blank, reads}
 
 -- where some item passes, the first such position is in the list
 pub position_or_len-within : {X : Type 0} (p : X → Bool) (xs : List X) → list_any p xs ≡ true → position_or_len p xs < length xs
@@ -55,17 +56,3 @@ variable_number-below known name = elim (cases_Bool (is_variable_of known name))
   | inl e ↦ rw e (position-there (reads name.text) known (and_parts (not (is_blank name)) (list_any (reads name.text) known) e).1)
   | inr e ↦ rw e (let long = length-append known (name ∷ []) in omega arith)
 ]
-
-pub variable_numbers-below :
-    (known names : List Name) (m : ℕ) → length (with_variables known names) ≤ m → list_all (λ v. nat_lt v m) (variable_numbers known names) ≡ true
-variable_numbers-below known [] m l = refl
-variable_numbers-below known (n ∷ ns) m l =
-    let here = variable_number-below known n in
-    let more = with_variables-longer (with_variable known n) ns in
-    let below : nat_lt (variable_number known n) m ≡ true = lt-ltb (variable_number known n) m (omega arith) in
-    and_from (nat_lt (variable_number known n) m) (list_all (λ v. nat_lt v m) (variable_numbers (with_variable known n) ns)) below
-    (variable_numbers-below (with_variable known n) ns m l)
-
-pub length-variable_numbers : (known names : List Name) → length (variable_numbers known names) ≡ length names
-length-variable_numbers known [] = refl
-length-variable_numbers known (n ∷ ns) = ap suc (length-variable_numbers (with_variable known n) ns)

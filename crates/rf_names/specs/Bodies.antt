@@ -1,5 +1,5 @@
 -- The variables of clauses, and what clauses call.
-use Rattle.std.specs.Prelude.{List, map, [], ◌∷◌, Bool, false, ◌&&◌, not, ◌++◌, if◌then◌else◌, ℕ, ◌||◌, nat_lt, count_by, filter, Option, None, Some, true, length, ◌==◌, position}
+use Rattle.std.specs.Prelude.{List, [], ◌∷◌, Bool, false, ◌&&◌, not, ◌++◌, if◌then◌else◌, ℕ, ◌||◌, nat_lt, count_by, filter, Option, None, Some, true, length, ◌==◌, position}
 use Rattle.std.specs.List.{flat_map, list_any, list_all}
 use Rattle.rf_syntax.specs.declared.name.Name.{Name}
 use Rattle.rf_syntax.specs.declared.predicate.Param.{Param}
@@ -7,24 +7,21 @@ use Rattle.rf_syntax.specs.declared.predicate.BodyLiteral.{BodyLiteral}
 use Rattle.rf_syntax.specs.declared.predicate.BodyLiteral.TheVariants.{Call, Same, Differ}
 use Rattle.rf_problem.specs.declared.symbol.Symbol.TheVariants.{Predicate as Defined}
 use Rattle.rf_finite.specs.Walks.{walk_below}
-use Rattle.rf_names.specs.LookUp.{is_blank, reads, first_of_each, literal_symbols, sense_of, predicate_decl_at, is_number, the_number}
+use Rattle.rf_names.specs.Texts.{is_blank, reads}
+use Rattle.rf_names.specs.LookUp.{first_of_each, literal_symbols, sense_of, predicate_decl_at, is_number, the_number, object_named}
 use Rattle.rf_names.specs.declared.sense.Sense.{Sense}
 use Rattle.rf_names.specs.declared.sense.Sense.TheVariants.{One}
-use Rattle.rf_names.specs.Declarations.{Declared}
+use Rattle.rf_problem.specs.declared.predicate.Term.{Term}
+use Rattle.rf_problem.specs.declared.predicate.Term.TheVariants.{Var, Atom}
+use Rattle.rf_names.specs.Declarations.{Declared, argument_names, is_atom_argument, param_names}
 
--- the names of the parameters
-abbrev pub param_names : List Param → List Name
-param_names params = map (λ p. p.name) params
-
--- the variables that a literal names, in order
-abbrev pub literal_names : BodyLiteral → List Name
-literal_names (Call negated symbol closure args) = args
-literal_names (Same a b) = a ∷ b ∷ []
-literal_names (Differ a b) = a ∷ b ∷ []
+-- the variables that a literal of a predicate with these parameters names, in order: its arguments that aren't atoms
+abbrev pub literal_names : Declared → List Param → BodyLiteral → List Name
+literal_names d params literal = filter (λ n. not (is_atom_argument d.atoms params n)) (argument_names literal)
 
 -- those that a clause names
-abbrev pub clause_names : List BodyLiteral → List Name
-clause_names clause = flat_map literal_names clause
+abbrev pub clause_names : Declared → List Param → List BodyLiteral → List Name
+clause_names d params clause = flat_map (literal_names d params) clause
 
 -- whether a `!` stands before it; comparisons have none
 abbrev pub is_negated : BodyLiteral → Bool
@@ -53,25 +50,25 @@ with_variables known (n ∷ ns) = with_variables (with_variable known n) ns
 
 -- the variables of a clause, each by its first name: the parameters, then the others in the order in
 -- which they occur first
-abbrev pub clause_variables : List Param → List BodyLiteral → List Name
-clause_variables params clause = with_variables (param_names params) (clause_names clause)
+abbrev pub clause_variables : Declared → List Param → List BodyLiteral → List Name
+clause_variables d params clause = with_variables (param_names params) (clause_names d params clause)
 
 -- whether a literal names the variable of this name
-abbrev pub names_variable : List ℕ → BodyLiteral → Bool
-names_variable text literal = list_any (reads text) (literal_names literal)
+abbrev pub names_variable : Declared → List Param → List ℕ → BodyLiteral → Bool
+names_variable d params text literal = list_any (reads text) (literal_names d params literal)
 
 -- whether a name is that of a variable that can't be quantified: it isn't a parameter, each literal that
 -- names it is negated, and there are several of them
-abbrev pub is_loose : List Param → List BodyLiteral → Name → Bool
-is_loose params clause name =
+abbrev pub is_loose : Declared → List Param → List BodyLiteral → Name → Bool
+is_loose d params clause name =
     not (is_blank name)
     && (not (list_any (reads name.text) (param_names params))
-    && (list_all (λ l. not (names_variable name.text l) || is_negated l) clause
-    && nat_lt 1 (count_by (names_variable name.text) clause)))
+    && (list_all (λ l. not (names_variable d params name.text l) || is_negated l) clause
+    && nat_lt 1 (count_by (names_variable d params name.text) clause)))
 
 -- such variables, each by its first name
-abbrev pub loose_variables : List Param → List BodyLiteral → List Name
-loose_variables params clause = filter (is_loose params clause) (first_of_each [] (clause_names clause))
+abbrev pub loose_variables : Declared → List Param → List BodyLiteral → List Name
+loose_variables d params clause = filter (is_loose d params clause) (first_of_each [] (clause_names d params clause))
 
 -- the predicate that a symbol stands for, where it is one
 abbrev pub predicate_of : Sense → Option ℕ
@@ -102,7 +99,19 @@ abbrev pub variable_number : List Name → Name → ℕ
 variable_number known name =
     if is_variable_of known name then the_number (position (reads name.text) known) else length known
 
--- the numbers of the variables that names stand for, one after another
-abbrev pub variable_numbers : List Name → List Name → List ℕ
-variable_numbers known [] = []
-variable_numbers known (n ∷ ns) = variable_number known n ∷ variable_numbers (with_variable known n) ns
+-- the term that an argument stands for, after these variables: an atom, or a variable
+abbrev pub term_of : Declared → List Param → List Name → Name → Term
+term_of d params known name =
+    if is_atom_argument d.atoms params name
+    then Atom (the_number (object_named d name.text))
+    else Var (variable_number known name)
+
+-- the variables after an argument
+abbrev pub with_argument : Declared → List Param → List Name → Name → List Name
+with_argument d params known name =
+    if is_atom_argument d.atoms params name then known else with_variable known name
+
+-- the terms that arguments stand for, one after another
+abbrev pub terms_of : Declared → List Param → List Name → List Name → List Term
+terms_of d params known [] = []
+terms_of d params known (n ∷ ns) = term_of d params known n ∷ terms_of d params (with_argument d params known n) ns

@@ -1,3 +1,4 @@
+pub mod Texts
 pub mod Bodies
 pub mod Declarations
 pub mod Offsets

@@ -8,21 +8,10 @@ use Rattle.rf_problem.specs.declared.symbol.Symbol.{Symbol}
 use Rattle.rf_problem.specs.declared.symbol.Symbol.TheVariants.{Class, Reference, Predicate as Defined, Exists, Equals}
 use Rattle.rf_syntax.specs.declared.name.SymbolName.{SymbolName}
 use Rattle.rf_syntax.specs.declared.statement.Item.{Item}
+use Rattle.rf_names.specs.Texts.{reads, is_text_of}
 use Rattle.rf_names.specs.Declarations.{ClassDecl, PredicateDecl, Declared, ReferenceDecl}
 use Rattle.rf_names.specs.declared.sense.Sense.{Sense}
 use Rattle.rf_names.specs.declared.sense.Sense.TheVariants.{Nothing, One, Several}
-
--- whether a name is this text
-abbrev pub reads : List ℕ → Name → Bool
-reads text name = bytes_eq name.text text
-
--- whether it is one of these texts
-abbrev pub is_text_of : List (List ℕ) → Name → Bool
-is_text_of texts name = list_any (λ text. bytes_eq name.text text) texts
-
--- the name that stands for a variable of its own each time
-abbrev pub is_blank : Name → Bool
-is_blank name = reads (codes "_") name
 
 -- the first name of each text, but for those of the texts seen before
 abbrev pub first_of_each : List (List ℕ) → List Name → List Name
@@ -40,7 +29,7 @@ abbrev pub no_name : Name
 no_name = record { text = []; quoted = false; at = 0 }
 
 abbrev pub no_class_decl : ClassDecl
-no_class_decl = record { name = no_name; is_abstract = false; supers = []; features = [] }
+no_class_decl = record { name = no_name; is_abstract = false; is_enum = false; supers = []; features = []; literals = [] }
 
 abbrev pub no_predicate_decl : PredicateDecl
 no_predicate_decl = record { is_error = false; name = no_name; params = []; clauses = [] }
@@ -144,10 +133,27 @@ named_objects d = first_of_each [] d.mentions
 abbrev pub object_named : Declared → List ℕ → Option ℕ
 object_named d text = position (reads text) (named_objects d)
 
+-- whether a class has an object that its new nodes come from: it is neither abstract nor an enum
+abbrev pub has_new : ClassDecl → Bool
+has_new c = not c.is_abstract && not c.is_enum
+
 -- the number of the object that the new nodes of class c come from: after the named ones, and those
--- of the classes before it that aren't abstract
+-- of the classes before it
 abbrev pub new_object_of : Declared → ℕ → ℕ
-new_object_of d c = length (named_objects d) + count_by (λ k. not k.is_abstract) (take c d.classes)
+new_object_of d c = length (named_objects d) + count_by has_new (take c d.classes)
+
+-- whether an enum has a literal of this text
+abbrev pub has_literal : List ℕ → ClassDecl → Bool
+has_literal text c = list_any (reads text) c.literals
+
+-- whether the class of this number is an enum with this literal
+abbrev pub is_literal_of : Declared → Option ℕ → List ℕ → Bool
+is_literal_of d None text = false
+is_literal_of d (Some c) text = has_literal text (class_decl_at d c)
+
+-- the number of the enum that has this literal
+abbrev pub enum_of : Declared → List ℕ → Option ℕ
+enum_of d text = position (has_literal text) d.classes
 
 -- the item of a `multi` that names this object
 abbrev pub item_named : Declared → List ℕ → Option Item

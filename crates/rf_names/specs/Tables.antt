@@ -1,5 +1,5 @@
 -- For private functions and fields: tables in which names and their numbers are found without a scan.
-use Rattle.std.specs.Prelude.{ℕ, List, Option, ◌≡◌, position, [], None, Some, option_to_list, not, take, count_by, ◌<◌, length, slice_index_or, Bool, false, slice_get}
+use Rattle.std.specs.Prelude.{ℕ, List, Option, ◌≡◌, position, [], None, Some, option_to_list, take, count_by, ◌<◌, length, slice_index_or, Bool, false, slice_get, map, ◌∷◌, ◌++◌, suc}
 use Rattle.std.specs.BTreeMap.{BTreeMap, get_by}
 use Rattle.std.specs.HashMap.{HashMap, get_by as hash_get_by}
 use Rattle.std.specs.Str.{bytes_eq}
@@ -10,7 +10,8 @@ use Rattle.std.specs.declared.vec.Vec.{Vec}
 use Rattle.std.specs.declared.alloc.Global.{Global}
 use Rattle.std.specs.List.{flat_map}
 use Rattle.rf_syntax.specs.declared.name.Name.{Name}
-use Rattle.rf_names.specs.LookUp.{reads, numbers_where}
+use Rattle.rf_names.specs.Texts.{reads}
+use Rattle.rf_names.specs.LookUp.{has_new, numbers_where}
 use Rattle.rf_names.specs.Declarations.{ClassDecl}
 use Rattle.rf_names.specs.declared.sense.Sense.{Sense}
 use Rattle.rf_names.specs.declared.sense.Sense.TheVariants.{Nothing, One, Several}
@@ -40,14 +41,19 @@ AreListed names lists = (text : List ℕ) → numbers_in lists text ≡ numbers_
 abbrev pub numbers_among : List Name → List Name → List ℕ
 numbers_among names found = flat_map (λ s. option_to_list (position (reads s.text) names)) found
 
--- how many of the first c classes aren't abstract
-abbrev pub concrete_before : List ClassDecl → ℕ → ℕ
-concrete_before classes c = count_by (λ k. not k.is_abstract) (take c classes)
+-- how many of the first c classes have an object that their new nodes come from
+abbrev pub new_before : List ClassDecl → ℕ → ℕ
+new_before classes c = count_by has_new (take c classes)
 
 -- the counts are those before each class
 pub record AreCounts (classes : List ClassDecl) (many : ℕ) (counts : List ℕ) : Type 0 where
   pub count : length counts ≡ many
-  pub each : (c : ℕ) → c < many → slice_index_or counts c 0 ≡ concrete_before classes c
+  pub each : (c : ℕ) → c < many → slice_index_or counts c 0 ≡ new_before classes c
+
+-- for each of the literals of these classes, which have the numbers from n on, the number of its class
+abbrev pub owners_from : ℕ → List ClassDecl → List ℕ
+owners_from n [] = []
+owners_from n (c ∷ cs) = map (λ l. n) c.literals ++ owners_from (suc n) cs
 
 -- whether there is an item, and it passes
 abbrev pub some_passes : {T : Type 0} → (T → Bool) → Option T → Bool

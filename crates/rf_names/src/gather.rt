@@ -1,15 +1,14 @@
 //! What one statement declares and states, and the references of classes.
 
 ghost use Rattle.std.specs.Prelude.{◌≡◌, ◌∷◌, ◌++◌, [], IfOk, OnOk, map};
-ghost use Rattle.std.specs.List.{flat_map};
-ghost use Rattle.rf_names.specs.Declarations.{asserted_atom, asserted_truth, assertions_in, bounds_in, classes_in, features_or_none, is_error_word, items_in, items_of, items_or_none, mentions_in, names_in, object_alone, object_in, predicates_in, references_of, truth_of};
+ghost use Rattle.rf_names.specs.Declarations.{asserted_atom, asserted_truth, assertions_in, atoms_in, bounds_in, classes_in, is_error_word, items_in, items_of, items_or_none, listed_or_none, names_in, predicates_in, references_of, truth_of};
 
 use crate::parts::{
     AssertDeclaration, ClassDeclaration, ClauseDeclaration, PredicateDeclaration,
     ReferenceDeclaration,
 };
 use rf_syntax::{
-    Arg, AssertionForm, AtomForm, BodyLiteral, Bound, Feature, Item, Name, NonEmpty, PredicateWord,
+    AssertionForm, AtomForm, BodyLiteral, Bound, Feature, Item, Name, NonEmpty, PredicateWord,
     Statement, ValueWord,
 };
 use rf_text::Items;
@@ -29,12 +28,24 @@ pub fn push_all<'a, T>(out: &mut Vec<&'a T>, items: &'a [T]) -> Result<(), Alloc
     Ok(())
 }
 
-fn push_list<'a, T>(out: &mut Vec<&'a T>, list: &'a NonEmpty<T>) -> Result<(), AllocError>
+/// Appends each item of a list that isn't empty, lent.
+pub fn push_list<'a, T>(out: &mut Vec<&'a T>, list: &'a NonEmpty<T>) -> Result<(), AllocError>
     ensures { OnOk result (map (λ i. i.now) out.new.items ≡ map (λ i. i.now) out.old.items
         ++ items_of list.now) }
 {
     out.push(&list.first)?;
     push_all(out, list.rest.as_slice())
+}
+
+/// Appends each item of a list that may be left out, lent.
+pub fn push_listed<'a, T>(
+    out: &mut Vec<&'a T>,
+    list: &'a Option<Items<T>>,
+) -> Result<(), AllocError>
+    ensures { OnOk result (map (λ i. i.now) out.new.items ≡ map (λ i. i.now) out.old.items
+        ++ listed_or_none list.now) }
+{
+    push_all(out, listed(list))
 }
 
 fn push_item_names<'a>(out: &mut Vec<&'a Name>, items: &'a [Item]) -> Result<(), AllocError>
@@ -47,7 +58,8 @@ fn push_item_names<'a>(out: &mut Vec<&'a Name>, items: &'a [Item]) -> Result<(),
     Ok(())
 }
 
-fn push_names_of_items<'a>(
+/// Appends the names of items.
+pub fn push_names_of_items<'a>(
     out: &mut Vec<&'a Name>,
     list: &'a NonEmpty<Item>,
 ) -> Result<(), AllocError>
@@ -72,11 +84,12 @@ fn supers_of<'a>(
     Ok(names)
 }
 
-fn features_of(body: &Option<Items<Feature>>) -> &[Feature]
-    ensures { result.now ≡ features_or_none body.now }
+// The items of a list that may be left out.
+fn listed<T>(list: &Option<Items<T>>) -> &[T]
+    ensures { result.now ≡ listed_or_none list.now }
 {
-    match body {
-        Some(features) => features.as_slice(),
+    match list {
+        Some(items) => items.as_slice(),
         None => &[],
     }
 }
@@ -137,7 +150,8 @@ fn truth_of(word: ValueWord) -> Truth
     }
 }
 
-fn atom_of(assertion: &AssertionForm) -> &AtomForm
+/// What is asserted.
+pub fn atom_of(assertion: &AssertionForm) -> &AtomForm
     ensures { result.now ≡ asserted_atom assertion.now }
 {
     match assertion {
@@ -159,28 +173,6 @@ fn asserted(assertion: &AssertionForm) -> Truth
     }
 }
 
-fn push_object<'a>(out: &mut Vec<&'a Name>, arg: &'a Arg) -> Result<(), AllocError>
-    ensures { OnOk result (map (λ n. n.now) out.new.items ≡ map (λ n. n.now) out.old.items
-        ++ object_in arg.now) }
-{
-    if let Arg::Symbol(symbol) = arg {
-        if symbol.member.is_none() {
-            out.push(&symbol.name)?;
-        }
-    }
-    Ok(())
-}
-
-fn push_objects<'a>(out: &mut Vec<&'a Name>, args: &'a [Arg]) -> Result<(), AllocError>
-    ensures { OnOk result (map (λ n. n.now) out.new.items ≡ map (λ n. n.now) out.old.items
-        ++ flat_map object_in args.now) }
-{
-    for arg in args {
-        push_object(out, arg)?;
-    }
-    Ok(())
-}
-
 // What one statement adds to each list.
 
 /// Appends the names that it declares in the space of classes, predicates and objects.
@@ -190,16 +182,34 @@ pub fn push_names<'a>(out: &mut Vec<&'a Name>, statement: &'a Statement) -> Resu
 {
     match statement {
         Statement::Class { name, .. } => out.push(name)?,
+        Statement::Enum { name, literals } => {
+            out.push(name)?;
+            push_listed(out, literals)?;
+        }
         Statement::Predicate { name, .. } => out.push(name)?,
         Statement::Declare(names) => push_list(out, names)?,
         Statement::Multi(items) => push_names_of_items(out, items)?,
+        Statement::Atoms(names) => push_list(out, names)?,
         Statement::Scope(_) => {}
         Statement::Assert { .. } => {}
     }
     Ok(())
 }
 
-/// Appends the class that it declares.
+/// Appends the atoms that it declares.
+pub fn push_atoms<'a>(out: &mut Vec<&'a Name>, statement: &'a Statement) -> Result<(), AllocError>
+    ensures { OnOk result (map (λ n. n.now) out.new.items ≡ map (λ n. n.now) out.old.items
+        ++ atoms_in statement.now) }
+{
+    match statement {
+        Statement::Enum { literals, .. } => push_listed(out, literals)?,
+        Statement::Atoms(names) => push_list(out, names)?,
+        _ => {}
+    }
+    Ok(())
+}
+
+/// Appends the class or the enum that it declares.
 pub fn push_class<'a>(
     alloc: Global,
     out: &mut Vec<ClassDeclaration<'a>>,
@@ -207,19 +217,29 @@ pub fn push_class<'a>(
 ) -> Result<(), AllocError>
     ensures { OnOk result (out.new.items ≡ out.old.items ++ classes_in statement.now) }
 {
-    if let Statement::Class {
-        is_abstract,
-        name,
-        supers,
-        body,
-    } = statement
-    {
-        out.push(ClassDeclaration {
+    match statement {
+        Statement::Class {
+            is_abstract,
+            name,
+            supers,
+            body,
+        } => out.push(ClassDeclaration {
             name,
             is_abstract: *is_abstract,
+            is_enum: false,
             supers: supers_of(alloc, supers)?,
-            features: features_of(body),
-        })?;
+            features: listed(body),
+            literals: &[],
+        })?,
+        Statement::Enum { name, literals } => out.push(ClassDeclaration {
+            name,
+            is_abstract: false,
+            is_enum: true,
+            supers: Vec::new(alloc),
+            features: &[],
+            literals: listed(literals),
+        })?,
+        _ => {}
     }
     Ok(())
 }
@@ -288,27 +308,6 @@ pub fn push_assertion<'a>(
             atom: atom_of(assertion),
             value: asserted(assertion),
         })?;
-    }
-    Ok(())
-}
-
-/// Appends the names at which it speaks of named objects.
-pub fn push_mentions<'a>(
-    out: &mut Vec<&'a Name>,
-    statement: &'a Statement,
-) -> Result<(), AllocError>
-    ensures { OnOk result (map (λ n. n.now) out.new.items ≡ map (λ n. n.now) out.old.items
-        ++ mentions_in statement.now) }
-{
-    match statement {
-        Statement::Declare(names) => push_list(out, names)?,
-        Statement::Multi(items) => push_names_of_items(out, items)?,
-        Statement::Assert { assertion, .. } => {
-            push_objects(out, atom_of(assertion).args.as_slice())?
-        }
-        Statement::Class { .. } => {}
-        Statement::Predicate { .. } => {}
-        Statement::Scope(_) => {}
     }
     Ok(())
 }

@@ -1,12 +1,13 @@
 //! What a problem text declares, and what its names stand for.
 //!
 //! 1. What is declared. `Declarations` gathers from the statement tree what it declares and states:
-//!    classes, references, predicates, items of `multi`, bounds of `scope`, assertions, and the names
-//!    at which it speaks of objects; each list in the order of the text, lent from the tree.
-//!    (`specs/Declarations`)
+//!    classes and enums, references, predicates, items of `multi`, bounds of `scope`, assertions,
+//!    atoms, and the names at which it speaks of objects; each list in the order of the text, lent
+//!    from the tree. (`specs/Declarations`)
 //! 2. What names stand for. `Names` keeps tables of these lists, in which the class, the predicate,
-//!    the object or the references of a name are found without a scan. (`specs/LookUp`; variables of
-//!    clauses and calls: `specs/Bodies`)
+//!    the object, the enum of a literal or the references of a name are found without a scan.
+//!    (`specs/LookUp`) `Arguments` says which arguments of bodies are atoms; the others are variables.
+//!    (`specs/Bodies`)
 //! 3. What has no cycle. `has_ranks` shows by ranks of vertices that no walk leads back to its start,
 //!    in time linear in the edges. (`specs/Ranks`)
 //!
@@ -14,15 +15,20 @@
 //! the least of them (`specs/Offsets`, `lesser` and `offset_if`).
 #![tactic(auto)]
 
+mod arguments;
 mod bodies;
+mod class_tables;
 mod counts;
 mod declarations;
+mod enum_tables;
 mod gather;
 mod kind;
 mod listing;
 mod members;
+mod mentions;
 mod names;
 mod numbering;
+mod object_tables;
 mod offsets;
 mod opposites;
 mod parts;
@@ -31,9 +37,14 @@ mod sense;
 mod senses;
 mod supers;
 
-pub use bodies::{is_blank, names_of_literals, names_of_params, reads};
+pub use arguments::Arguments;
+pub use bodies::{
+    is_blank, names_of_arguments, names_of_literal, names_of_literals, names_of_params,
+    push_argument_names, reads,
+};
 pub use declarations::Declarations;
 pub use kind::kind_of;
+pub use mentions::object_name;
 pub use names::Names;
 pub use numbering::Numbering;
 pub use offsets::{

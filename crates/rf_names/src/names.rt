@@ -1,20 +1,21 @@
 //! What the names of a tree stand for, found without a scan of all that it declares.
 
 ghost use Rattle.std.specs.Prelude.{◌≡◌, ◌<◌, ◌^◌, ℕ, IfOk, IfSome, IsTrue, map, length, slice_index_or, false};
+ghost use Rattle.std.specs.List.{list_any};
 ghost use Rattle.std.specs.Option.{option_map};
-ghost use Rattle.rf_names.specs.LookUp.{assertion_symbols, class_named, extends_somehow, first_of_each, item_named, literal_symbols, members_of_some, named_objects, new_object_of, object_named, predicate_named, references_named, sense_of, symbols_named};
-ghost use Rattle.rf_names.specs.Tables.{AreCounts, AreListed, numbers_among};
+ghost use Rattle.rf_names.specs.LookUp.{assertion_symbols, class_named, enum_of, extends_somehow, is_literal_of, item_named, literal_symbols, members_of_some, named_objects, new_object_of, object_named, predicate_named, references_named, sense_of, symbols_named};
+ghost use Rattle.rf_names.specs.Tables.{AreListed};
+ghost use Rattle.rf_names.specs.Texts.{reads};
 
 use crate::Sense;
-use crate::counts::concrete_before;
+use crate::class_tables::ClassTables;
 use crate::declarations::Declarations;
+use crate::enum_tables::EnumTables;
 use crate::listing::{numbers_by_name, numbers_under};
 use crate::members::{declared_above, declared_by};
 use crate::numbering::Numbering;
-use crate::ranks::has_ranks;
+use crate::object_tables::ObjectTables;
 use crate::senses::{joined, own_sense, sense_of_class, sense_of_predicate, sense_of_references};
-use crate::supers::supers_of;
-use rf_closure::reach_along;
 use rf_problem::Symbol;
 use rf_syntax::{Item, Name, SymbolName};
 use std::alloc::{AllocError, Global};
@@ -24,45 +25,19 @@ use std::collections::BTreeMap;
 #[derive(Drop)]
 pub struct Names<'a> {
     pub declared: &'a Declarations<'a>,
-    classes: Numbering<'a>,
+    classes: ClassTables<'a>,
+    enums: EnumTables<'a>,
+    objects: ObjectTables<'a>,
     predicates: Numbering<'a>,
-    items: Numbering<'a>,
-    // Each by the name at which it occurs first.
-    objects: Numbering<'a>,
     // The numbers of the references of each name.
     references: BTreeMap<&'a str, Vec<u32>>,
-    // For each class the numbers of those that it extends directly.
-    supers: Vec<Vec<u64>>,
-    // For each class how many classes before it aren't abstract.
-    concrete_before: Vec<u64>,
-    ghost of_classes: { map (λ n. n.now) classes.names.items
-        ≡ map (λ c. c.name) declared.now.classes },
+    ghost of_classes: { classes.declared.now ≡ declared.now },
+    ghost of_enums: { enums.declared.now ≡ declared.now },
+    ghost of_objects: { objects.declared.now ≡ declared.now },
     ghost of_predicates: { map (λ n. n.now) predicates.names.items
         ≡ map (λ p. p.name) declared.now.predicates },
-    ghost of_items: { map (λ n. n.now) items.names.items ≡ map (λ i. i.name) declared.now.items },
-    ghost of_objects: { map (λ n. n.now) objects.names.items ≡ named_objects declared.now },
     ghost of_references: { AreListed (map (λ r. r.feature.name) declared.now.references) references },
-    ghost of_supers: { map (λ list. list.items) supers.items
-        ≡ map (λ c. numbers_among (map (λ x. x.name) declared.now.classes) c.supers)
-        declared.now.classes },
-    ghost counted: { AreCounts declared.now.classes (length declared.now.classes) concrete_before.items },
-    ghost few_classes: { length declared.now.classes < 2 ^ 32 },
     ghost few_predicates: { length declared.now.predicates < 2 ^ 32 },
-}
-
-// The names of the classes.
-fn class_names<'a>(
-    alloc: Global,
-    declared: &'a Declarations<'a>,
-) -> Result<Vec<&'a Name>, AllocError>
-    ensures { IfOk result (λ names. map (λ n. n.now) names.items
-        ≡ map (λ c. c.name) declared.now.classes) }
-{
-    let mut names = Vec::new(alloc);
-    for class in declared.classes.as_slice() {
-        names.push(class.name)?;
-    }
-    Ok(names)
 }
 
 // The names of the predicates.
@@ -76,21 +51,6 @@ fn predicate_names<'a>(
     let mut names = Vec::new(alloc);
     for predicate in declared.predicates.as_slice() {
         names.push(predicate.name)?;
-    }
-    Ok(names)
-}
-
-// The names of the items.
-fn item_names<'a>(
-    alloc: Global,
-    declared: &'a Declarations<'a>,
-) -> Result<Vec<&'a Name>, AllocError>
-    ensures { IfOk result (λ names. map (λ n. n.now) names.items
-        ≡ map (λ i. i.name) declared.now.items) }
-{
-    let mut names = Vec::new(alloc);
-    for item in declared.items.as_slice() {
-        names.push(&item.name)?;
     }
     Ok(names)
 }
@@ -116,17 +76,13 @@ impl<'a> Names<'a> {
         if !are_few(declared) {
             return Err(AllocError);
         }
-        let classes = Numbering::of(alloc, class_names(alloc, declared)?.as_slice())?;
-        let supers = supers_of(alloc, &classes, declared.classes.as_slice())?;
         Ok(Names {
             declared,
-            classes,
+            classes: ClassTables::of(alloc, declared)?,
+            enums: EnumTables::of(alloc, declared)?,
+            objects: ObjectTables::of(alloc, declared)?,
             predicates: Numbering::of(alloc, predicate_names(alloc, declared)?.as_slice())?,
-            items: Numbering::of(alloc, item_names(alloc, declared)?.as_slice())?,
-            objects: Numbering::of_first(alloc, declared.mentions.as_slice())?,
             references: numbers_by_name(alloc, declared.references.as_slice())?,
-            supers,
-            concrete_before: concrete_before(alloc, declared.classes.as_slice())?,
         })
     }
 
@@ -134,10 +90,7 @@ impl<'a> Names<'a> {
     pub fn class_named(&self, text: &str) -> Option<u32>
         ensures { result ≡ class_named self.now.declared.now text.now }
     {
-        match self.classes.find(text) {
-            Some(number) => Some(number as u32),
-            None => None,
-        }
+        self.classes.named(text)
     }
 
     /// The number of the predicate of this name.
@@ -165,8 +118,7 @@ impl<'a> Names<'a> {
         ensures value { IfOk result (λ marks. (k : ℕ) → k < length self.now.declared.now.classes
             → slice_index_or marks.items k false ≡ extends_somehow self.now.declared.now class k) }
     {
-        let marks = reach_along(alloc, self.supers.as_slice(), class as u64)?;
-        Ok(marks)
+        self.classes.above(alloc, class)
     }
 
     /// Whether ranks of the classes show that no class extends itself, directly or through others.
@@ -177,8 +129,7 @@ impl<'a> Names<'a> {
         ensures { IfOk result (λ yes. IsTrue yes
             → (c : ℕ) → extends_somehow self.now.declared.now c c ≡ false) }
     {
-        let yes = has_ranks(alloc, self.supers.as_slice())?;
-        Ok(yes)
+        self.classes.has_ranks(alloc)
     }
 
     /// The references that a member's name stands for in a class; none where the class isn't there.
@@ -255,14 +206,14 @@ impl<'a> Names<'a> {
     pub fn objects(&self) -> &[&'a Name]
         ensures { map (λ n. n.now) result.now ≡ named_objects self.now.declared.now }
     {
-        self.objects.names.as_slice()
+        self.objects.names()
     }
 
     /// The number of the object of this name.
     pub fn object_named(&self, text: &str) -> Option<u64>
         ensures { result ≡ object_named self.now.declared.now text.now }
     {
-        self.objects.find(text)
+        self.objects.named(text)
     }
 
     /// The number of the object that the new nodes of a class come from.
@@ -270,17 +221,35 @@ impl<'a> Names<'a> {
         requires { class < length self.now.declared.now.classes }
         ensures { result ≡ new_object_of self.now.declared.now class }
     {
-        self.objects.names.len() as u64 + self.concrete_before[class as usize]
+        self.objects.names().len() as u64 + self.classes.new_before(class)
     }
 
     /// The item of a `multi` that names this object.
     pub fn item_named(&self, text: &str) -> Option<&'a Item>
         ensures { option_map (λ i. i.now) result ≡ item_named self.now.declared.now text.now }
     {
+        self.objects.item_named(text)
+    }
+
+    /// Whether an atom has this name.
+    pub fn is_atom(&self, text: &str) -> bool
+        ensures { result ≡ list_any (reads text.now) self.now.declared.now.atoms }
+    {
         let declared = self.declared;
-        match self.items.find(text) {
-            Some(number) => Some(declared.items[number as usize]),
-            None => None,
-        }
+        declared.atoms.contains(text)
+    }
+
+    /// The number of the first enum that has this literal.
+    pub fn enum_of(&self, text: &str) -> Option<u32>
+        ensures { result ≡ enum_of self.now.declared.now text.now }
+    {
+        self.enums.of_literal(text)
+    }
+
+    /// Whether the class of this number is an enum with this literal.
+    pub fn is_literal_of(&self, class: Option<u32>, text: &str) -> bool
+        ensures { result ≡ is_literal_of self.now.declared.now class text.now }
+    {
+        self.enums.has_literal(class, text)
     }
 }

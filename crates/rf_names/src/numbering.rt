@@ -1,7 +1,9 @@
 //! Names that have numbers by their order, found without a scan of them all.
 
 ghost use Rattle.std.specs.Prelude.{◌≡◌, [], ◌∷◌, ◌++◌, map, position, IfOk};
-ghost use Rattle.rf_names.specs.LookUp.{first_of_each, reads};
+ghost use Rattle.std.specs.List.{list_any};
+ghost use Rattle.rf_names.specs.LookUp.{first_of_each};
+ghost use Rattle.rf_names.specs.Texts.{reads};
 ghost use Rattle.rf_names.specs.Tables.{AreNumbered};
 
 use indexmap::IndexMap;
@@ -98,6 +100,14 @@ impl<'a> Numbering<'a> {
             }
         }
         Ok(numbering)
+    }
+
+    /// Whether a name reads so.
+    #[tactic(auto, using(crate::proofs::FirstLemmas::some_position))]
+    pub fn contains(&self, text: &str) -> bool
+        ensures { result ≡ list_any (reads text.now) (map (λ n. n.now) self.now.names.items) }
+    {
+        self.find(text).is_some()
     }
 
     /// The number of the first name that reads so.

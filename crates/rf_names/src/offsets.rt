@@ -4,8 +4,10 @@ ghost use Rattle.std.specs.Prelude.{◌≡◌, IfOk, map};
 ghost use Rattle.std.specs.List.{flat_map};
 ghost use Rattle.rf_names.specs.Offsets.{least_of, lesser, offset_if, offsets_in_clauses, offsets_in_literals};
 
+use crate::arguments::Arguments;
+use crate::names::Names;
 use crate::parts::{ClauseDeclaration, PredicateDeclaration};
-use rf_syntax::{BodyLiteral, Param};
+use rf_syntax::BodyLiteral;
 use std::alloc::{AllocError, Global};
 
 /// The lesser of two offsets, where there are such.
@@ -71,77 +73,98 @@ pub fn least_among_lent<T, R: OffsetRule<T>>(
     Ok(least)
 }
 
-/// A rule that is asked of each clause, with the parameters of its predicate.
+/// A rule that is asked of each clause, with what its arguments stand for.
 pub trait ClauseRule {
     ghost use Rattle.std.specs.Prelude.{List, ℕ};
     ghost use Rattle.rf_syntax.specs.declared.predicate.BodyLiteral.{BodyLiteral};
     ghost use Rattle.rf_syntax.specs.declared.predicate.Param.{Param};
+    ghost use Rattle.rf_names.specs.Declarations.{Declared};
 
-    /// Where a clause breaks it.
-    ghost clause_offsets: { Self → List Param → List BodyLiteral → List ℕ };
+    /// Where a clause of a predicate with these parameters breaks it.
+    ghost clause_offsets: { Self → Declared → List Param → List BodyLiteral → List ℕ };
 
     /// The least such offset.
     fn least_in_clause(
         &self,
         alloc: Global,
-        params: &[Param],
+        arguments: &Arguments,
         clause: &ClauseDeclaration,
     ) -> Result<Option<u64>, AllocError>
-        ensures { IfOk result (λ at.
-            at ≡ least_of (clause_offsets self.now params.now clause.now)) };
+        ensures { IfOk result (λ at. at ≡ least_of (clause_offsets
+            self.now arguments.now.names.now.declared.now arguments.now.params.now clause.now)) };
 }
 
 // A rule of clauses, asked of the clauses of one predicate.
 #[derive(Drop)]
-struct OfClause<'r, R> {
+struct OfClause<'r, 's, 'n, 'd, 'p, R> {
     rule: &'r R,
-    params: &'r [Param],
+    arguments: &'s Arguments<'n, 'd, 'p>,
 }
 
-impl<'r, 'a, R: ClauseRule> OffsetRule<ClauseDeclaration<'a>> for OfClause<'r, R> {
-    ghost offsets = { λ of. R.clause_offsets of.rule.now of.params.now };
+impl<'r, 's, 'n, 'd, 'p, 'a, R: ClauseRule> OffsetRule<ClauseDeclaration<'a>>
+    for OfClause<'r, 's, 'n, 'd, 'p, R> {
+    ghost offsets = { λ of.
+        R.clause_offsets of.rule.now of.arguments.now.names.now.declared.now of.arguments.now.params.now };
 
     fn least_in(
         &self,
         alloc: Global,
         clause: &ClauseDeclaration<'a>,
     ) -> Result<Option<u64>, AllocError> {
-        self.rule.least_in_clause(alloc, self.params, clause)
+        self.rule.least_in_clause(alloc, self.arguments, clause)
     }
+}
+
+// The least offset at which the clauses of one predicate break a rule.
+fn least_in_bodies<R: ClauseRule>(
+    alloc: Global,
+    rule: &R,
+    arguments: &Arguments,
+    clauses: &[ClauseDeclaration],
+) -> Result<Option<u64>, AllocError>
+    ensures { IfOk result (λ at. at ≡ least_of (flat_map (R.clause_offsets
+        rule.now arguments.now.names.now.declared.now arguments.now.params.now) clauses.now)) }
+{
+    least_among(alloc, &OfClause { rule, arguments }, clauses)
 }
 
 // A rule of clauses, asked of predicates.
 #[derive(Drop)]
-struct OfPredicate<'r, R> {
+struct OfPredicate<'r, 'n, 'd, R> {
     rule: &'r R,
+    names: &'n Names<'d>,
 }
 
-impl<'r, 'a, R: ClauseRule> OffsetRule<PredicateDeclaration<'a>> for OfPredicate<'r, R> {
-    ghost offsets = { λ of p. flat_map (R.clause_offsets of.rule.now p.params) p.clauses };
+impl<'r, 'n, 'd, 'a, R: ClauseRule> OffsetRule<PredicateDeclaration<'a>>
+    for OfPredicate<'r, 'n, 'd, R> {
+    ghost offsets = { λ of p.
+        flat_map (R.clause_offsets of.rule.now of.names.now.declared.now p.params) p.clauses };
 
     fn least_in(
         &self,
         alloc: Global,
         predicate: &PredicateDeclaration<'a>,
     ) -> Result<Option<u64>, AllocError> {
-        let rule = OfClause {
-            rule: self.rule,
-            params: predicate.params,
-        };
-        least_among(alloc, &rule, predicate.clauses.as_slice())
+        let arguments = Arguments::of(alloc, self.names, predicate.params)?;
+        least_in_bodies(alloc, self.rule, &arguments, predicate.clauses.as_slice())
     }
 }
 
-/// The least offset at which the clauses of predicates break a rule.
+/// The least offset at which the clauses of the predicates break a rule.
 pub fn least_in_clauses<R: ClauseRule>(
     alloc: Global,
     rule: &R,
-    predicates: &[PredicateDeclaration],
+    names: &Names,
 ) -> Result<Option<u64>, AllocError>
-    ensures { IfOk result (λ at.
-        at ≡ least_of (offsets_in_clauses (λ n. R.clause_offsets rule.now) 0 predicates.now)) }
+    ensures { IfOk result (λ at. at ≡ least_of (offsets_in_clauses
+        (λ n. R.clause_offsets rule.now names.now.declared.now) 0 names.now.declared.now.predicates)) }
 {
-    least_among(alloc, &OfPredicate { rule }, predicates)
+    let declared = names.declared;
+    least_among(
+        alloc,
+        &OfPredicate { rule, names },
+        declared.predicates.as_slice(),
+    )
 }
 
 // A rule of literals, asked of clauses.
@@ -151,26 +174,26 @@ struct OfLiterals<'r, R> {
 }
 
 impl<'r, R: OffsetRule<BodyLiteral>> ClauseRule for OfLiterals<'r, R> {
-    ghost clause_offsets = { λ of params clause. flat_map (R.offsets of.rule.now) clause };
+    ghost clause_offsets = { λ of d params clause. flat_map (R.offsets of.rule.now) clause };
 
     fn least_in_clause(
         &self,
         alloc: Global,
-        _params: &[Param],
+        _arguments: &Arguments,
         clause: &ClauseDeclaration,
     ) -> Result<Option<u64>, AllocError> {
         least_among_lent(alloc, self.rule, clause.literals.as_slice())
     }
 }
 
-/// The least offset at which the literals of predicates break a rule.
+/// The least offset at which the literals of the predicates break a rule.
 pub fn least_in_literals<R: OffsetRule<BodyLiteral>>(
     alloc: Global,
     rule: &R,
-    predicates: &[PredicateDeclaration],
+    names: &Names,
 ) -> Result<Option<u64>, AllocError>
     ensures { IfOk result (λ at.
-        at ≡ least_of (offsets_in_literals (λ n. R.offsets rule.now) predicates.now)) }
+        at ≡ least_of (offsets_in_literals (λ n. R.offsets rule.now) names.now.declared.now.predicates)) }
 {
-    least_in_clauses(alloc, &OfLiterals { rule }, predicates)
+    least_in_clauses(alloc, &OfLiterals { rule }, names)
 }

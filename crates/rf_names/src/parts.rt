@@ -6,14 +6,17 @@ use rf_syntax::{AtomForm, BodyLiteral, Feature, Name, Param};
 use rf_values::Truth;
 use std::marker::Model;
 
-/// A class.
+/// A class, or an enum.
 #[derive(Drop)]
 pub struct ClassDeclaration<'a> {
     pub name: &'a Name,
     pub is_abstract: bool,
+    pub is_enum: bool,
     /// The names after `extends`.
     pub supers: Vec<&'a Name>,
     pub features: &'a [Feature],
+    /// The literals of an enum.
+    pub literals: &'a [Name],
 }
 
 impl<'a> Model for ClassDeclaration<'a> {
@@ -22,7 +25,14 @@ impl<'a> Model for ClassDeclaration<'a> {
 
     ghost Value = { ClassDecl };
 
-    ghost view = { λ c. record { name = c.name.now; is_abstract = c.is_abstract; supers = map (λ s. s.now) c.supers.items; features = c.features.now } };
+    ghost view = { λ c. record {
+      name = c.name.now;
+      is_abstract = c.is_abstract;
+      is_enum = c.is_enum;
+      supers = map (λ s. s.now) c.supers.items;
+      features = c.features.now;
+      literals = c.literals.now;
+    } };
 }
 
 /// A reference.

@@ -13,7 +13,7 @@ use Rattle.rf_syntax.specs.declared.assertion.ValueWord.{ValueWord}
 use Rattle.rf_syntax.specs.declared.assertion.ValueWord.TheVariants.{True, False, Unknown, Error}
 use Rattle.rf_syntax.specs.declared.name.SymbolName.{SymbolName}
 use Rattle.rf_syntax.specs.declared.statement.Statement.{Statement}
-use Rattle.rf_syntax.specs.declared.statement.Statement.TheVariants.{Class, Predicate, Declare, Multi, Scope, Assert}
+use Rattle.rf_syntax.specs.declared.statement.Statement.TheVariants.{Class, Enum, Predicate, Declare, Multi, Atoms, Scope, Assert}
 use Rattle.rf_syntax.specs.Assertion.{arg_pieces, assertion_pieces, atom_pieces, value_pieces}
 use Rattle.rf_syntax.specs.Name.{symbol_pieces}
 use Rattle.rf_syntax.specs.Parts.{flagged, optional_after}
@@ -150,8 +150,10 @@ pub assert_case : (next : Option Kind) → BeginsNoWord next
 assert_case next none = record { same = λ p. append_assoc (flagged p.0 default_word) (assertion_pieces p.1.0) (terminal dot ∷ []); ends = λ more h. h; cases = cases } where
   cases : (s : Statement) → ((p : Bool × (AssertionForm × Unit {0})) × (Assert p.0 p.1.0 ≡ s)) ⊎ Begins statement_pieces never next s
   cases (Class a n s b) = inr (λ more h e. none.no_class (begun (Class a n s b) more next e))
+  cases (Enum n ls) = inr (λ more h e. none.no_enum (begun (Enum n ls) more next e))
   cases (Predicate a n p c) = inr (λ more h e. none.no_predicate (begun (Predicate a n p c) more next e))
   cases (Declare names) = inr (λ more h e. none.no_declare (begun (Declare names) more next e))
   cases (Multi items) = inr (λ more h e. none.no_multi (begun (Multi items) more next e))
+  cases (Atoms names) = inr (λ more h e. none.no_atoms (begun (Atoms names) more next e))
   cases (Scope bounds) = inr (λ more h e. none.no_scope (begun (Scope bounds) more next e))
   cases (Assert b a) = inl ((b, (a, tt)), refl)

@@ -14,14 +14,14 @@ use Rattle.rf_syntax.specs.declared.non_empty.NonEmpty.{NonEmpty}
 use Rattle.rf_syntax.specs.declared.name.Name.{Name}
 use Rattle.rf_syntax.specs.declared.range.Mult.{Mult}
 use Rattle.rf_syntax.specs.declared.statement.Statement.{Statement}
-use Rattle.rf_syntax.specs.declared.statement.Statement.TheVariants.{Class, Predicate, Declare, Multi, Scope, Assert}
+use Rattle.rf_syntax.specs.declared.statement.Statement.TheVariants.{Class, Enum, Predicate, Declare, Multi, Atoms, Scope, Assert}
 use Rattle.rf_syntax.specs.Class.{body_pieces, feature_pieces, feature_word_pieces}
 use Rattle.rf_syntax.specs.Name.{kind_of_name, name_pieces}
 use Rattle.rf_syntax.specs.Parts.{flagged, optional, optional_after, separated}
 use Rattle.rf_syntax.specs.Piece.{Piece, kinds_of, terminal}
 use Rattle.rf_syntax.specs.Range.{mult_pieces}
 use Rattle.rf_syntax.specs.Statement.{statement_pieces}
-use Rattle.rf_syntax.specs.Terminals.{abstract_word, class_word, comma, container_word, contains_word, dot, extends_word, left_brace, left_bracket, opposite_word, refers_word, right_brace, semicolon}
+use Rattle.rf_syntax.specs.Terminals.{abstract_word, class_word, comma, container_word, contains_word, extends_word, left_bracket, opposite_word, refers_word, right_brace, semicolon}
 use Rattle.rf_parser.specs.Fit.{token_kinds}
 use Rattle.rf_parser.specs.Private.Parts.{BeginsClass, BeginsPredicate, features_to_brace, mult_and_name, single}
 use Rattle.rf_parser.specs.Private.Parsing.{Halts, Parses, IsStuck, StartsWith, either, first_kind, never}
@@ -231,19 +231,6 @@ no_features next e = record { same = λ u. refl; ends = λ more h. h; cases = ca
 pub features_end : {ts rest : List Token} → StartsWith ts right_brace rest → Parses features_to_brace never ts [] rest
 features_end s = parsed_as (no_features _ (starts_first s)) (starts_parsed s)
 
--- the body of a class
-pub brace_case : (next : Option Kind) → next ≡ Some left_brace → IsCase (pair (single left_brace) features_to_brace) never body_pieces never next (λ p. Some p.1)
-brace_case next e = record { same = λ p. refl; ends = λ more h. h; cases = cases } where
-  cases : (o : Option (List Feature)) → ((p : Unit {0} × List Feature) × (Some p.1 ≡ o)) ⊎ Begins body_pieces never next o
-  cases None = inr (λ more h f. let both : Some dot ≡ Some left_brace = f ∙ e in cc)
-  cases (Some fs) = inl ((tt, fs), refl)
-
-pub no_brace_case : (next : Option Kind) → (next ≡ Some left_brace → ⊥) → IsCase (single dot) never body_pieces never next (λ u. None)
-no_brace_case next none = record { same = λ u. refl; ends = λ more h. h; cases = cases } where
-  cases : (o : Option (List Feature)) → ((u : Unit {0}) × (None ≡ o)) ⊎ Begins body_pieces never next o
-  cases None = inl (tt, refl)
-  cases (Some fs) = inr (λ more h e. none (sym e))
-
 -- classes
 abbrev pub class_flag : Bool → List Piece
 class_flag b = flagged b abstract_word
@@ -277,9 +264,11 @@ class_case next begins = record {
 
   cases : (s : Statement) → ((p : Bool × (Unit {0} × (Name × (Option (NonEmpty Name) × Option (List Feature))))) × (Class p.0 p.1.1.0 p.1.1.1.0 p.1.1.1.1 ≡ s)) ⊎ Begins statement_pieces never next s
   cases (Class a n s b) = inl ((a, (tt, (n, (s, b)))), refl)
+  cases (Enum n ls) = inr (λ more h e. not_both _ (λ x. cc) (λ x. cc) e)
   cases (Predicate a n p c) = inr (λ more h e. predicate (begun (Predicate a n p c) more next e))
   cases (Declare names) = inr (λ more h e. not_both _ (λ x. cc) (λ x. cc) e)
   cases (Multi items) = inr (λ more h e. not_both _ (λ x. cc) (λ x. cc) e)
+  cases (Atoms names) = inr (λ more h e. not_both _ (λ x. cc) (λ x. cc) e)
   cases (Scope bounds) = inr (λ more h e. not_both _ (λ x. cc) (λ x. cc) e)
   cases (Assert b a) = inr (λ more h e. (begun (Assert b a) more next e).no_class begins)
 

@@ -1,6 +1,7 @@
 mod AssertionParts
 mod Beginnings
 mod ClassParts
+mod EnumParts
 mod Prefixes
 mod Lengths
 mod ListParts

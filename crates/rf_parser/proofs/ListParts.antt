@@ -1,17 +1,17 @@
 -- What is parsed of lists.
-use Rattle.std.proofs.Common.{◌≡◌, ◌⊎◌, ℕ, List, [], ◌∷◌, ◌++◌, Option, Some, inl, inr, refl, sym, ap, ◌∙◌, subst, append_assoc}
+use Rattle.std.proofs.Common.{◌≡◌, ◌⊎◌, ℕ, List, [], ◌∷◌, ◌++◌, Option, None, Some, inl, inr, refl, sym, ap, ◌∙◌, subst, append_assoc}
 use Rattle.rf_lexer.specs.declared.token.Kind.{Kind}
 use Rattle.rf_lexer.specs.declared.token.Token.{Token}
-use Rattle.rf_syntax.specs.Parts.{each_after, separated, separated_or_none}
+use Rattle.rf_syntax.specs.Parts.{dot_or_braces, each_after, separated}
 use Rattle.rf_syntax.specs.Piece.{Piece, kinds_of, terminal}
-use Rattle.rf_syntax.specs.Terminals.{comma, left_paren, right_paren}
+use Rattle.rf_syntax.specs.Terminals.{comma, dot, left_brace, left_paren, right_brace, right_paren}
 use Rattle.rf_parser.specs.Fit.{token_kinds}
-use Rattle.rf_parser.specs.Private.Parts.{listed_in_parens, single}
+use Rattle.rf_parser.specs.Private.Parts.{listed_in_parens, listed_to, single}
 use Rattle.rf_parser.specs.Private.Parsing.{Adds, Halts, Parses, IsStuck, NeverBegins, StartsWith, either, first_kind, never}
 use Rattle.rf_parser.proofs.Prefixes.{append_nil, kinds_then}
 use Rattle.rf_parser.proofs.Optionals.{halts_less}
 use Rattle.rf_parser.proofs.Singles.{not_halted, starts_first, starts_parsed}
-use Rattle.rf_parser.proofs.Wholes.{Apart, Begins, IsCase, pair, parsed_as, parsed_next, parsed_nothing, parsed_then, stuck_as, stuck_first, stuck_next, stuck_start, stuck_then}
+use Rattle.rf_parser.proofs.Wholes.{Apart, Begins, IsCase, pair, parsed_as, parsed_next, parsed_nothing, parsed_then, stuck_as, stuck_first, stuck_next, stuck_then}
 
 -- what is parsed of the parts from rest on, with those before it, is parsed of all of them
 pub record Onward {T : Type 0} (pieces : List T → List Piece) (longer : Kind → Type 0) (tokens : List Token) (parts : List T) (rest : List Token) : Type 0 where
@@ -124,86 +124,93 @@ module _ {T : Type 0} {pieces : T → List Piece} {longer : Kind → Type 0} {ki
       subst (λ ps. Parses (separated kind pieces) (either kind longer) ts (record { first = part; rest = ps }) rest) (sym whole)
       (parsed_as (separated_case pieces longer kind _) (parsed_then (each_apart pieces longer kind apart) h k.parsed))
 
--- parts with commas between them in parentheses
-abbrev to_paren : {T : Type 0} → (T → List Piece) → List T → List Piece
-to_paren pieces parts = separated_or_none comma pieces parts ++ terminal right_paren ∷ []
-
--- what parts in parentheses need of a part
-pub record Listed {T : Type 0} (pieces : T → List Piece) (longer : Kind → Type 0) : Type 0 where
+-- what parts with commas between them, up to a closing kind, need of a part
+pub record Listed {T : Type 0} (close : Kind) (pieces : T → List Piece) (longer : Kind → Type 0) : Type 0 where
+  pub differs : close ≡ comma → ⊥
   pub no_comma : longer comma → ⊥
-  pub no_paren : longer right_paren → ⊥
-  pub begins : NeverBegins pieces right_paren
+  pub no_close : longer close → ⊥
+  pub begins : NeverBegins pieces close
 
-module _ {T : Type 0} (pieces : T → List Piece) (longer : Kind → Type 0) where
-  parens_case : (next : Option Kind) → IsCase (pair (single left_paren) (to_paren pieces)) never (listed_in_parens pieces) never next (λ p. p.1)
-  parens_case next = record { same = λ p. refl; ends = λ more h. h; cases = λ ps. inl ((tt, ps), refl) }
-
-  begins_part : NeverBegins pieces right_paren → (part : T) (parts : List T) (more : List Kind) → first_kind (kinds_of (to_paren pieces (part ∷ parts)) ++ more) ≡ Some right_paren → ⊥
+module _ {T : Type 0} (close : Kind) (pieces : T → List Piece) (longer : Kind → Type 0) where
+  begins_part : NeverBegins pieces close → (part : T) (parts : List T) (more : List Kind) → first_kind (kinds_of (listed_to close pieces (part ∷ parts)) ++ more) ≡ Some close → ⊥
   begins_part begins part parts more e =
       let rest = each_after comma pieces parts in
-      let whole = kinds_then (pieces part ++ rest) (terminal right_paren ∷ []) more ∙ kinds_then (pieces part) rest (right_paren ∷ more) in
-      begins part (kinds_of rest ++ right_paren ∷ more) (sym (ap first_kind whole) ∙ e)
+      let whole = kinds_then (pieces part ++ rest) (terminal close ∷ []) more ∙ kinds_then (pieces part) rest (close ∷ more) in
+      begins part (kinds_of rest ++ close ∷ more) (sym (ap first_kind whole) ∙ e)
 
-  empty_cases : NeverBegins pieces right_paren → (next : Option Kind) → next ≡ Some right_paren → (parts : List T) → ((u : Unit {0}) × ([] ≡ parts)) ⊎ Begins (to_paren pieces) never next parts
+  empty_cases : NeverBegins pieces close → (next : Option Kind) → next ≡ Some close → (parts : List T) → ((u : Unit {0}) × ([] ≡ parts)) ⊎ Begins (listed_to close pieces) never next parts
   empty_cases begins next e [] = inl (tt, refl)
   empty_cases begins next e (part ∷ parts) = inr (λ more h f. begins_part begins part parts more (f ∙ e))
 
-  empty_case : NeverBegins pieces right_paren → (next : Option Kind) → next ≡ Some right_paren → IsCase (single right_paren) never (to_paren pieces) never next (λ u. [])
+  empty_case : NeverBegins pieces close → (next : Option Kind) → next ≡ Some close → IsCase (single close) never (listed_to close pieces) never next (λ u. [])
   empty_case begins next e = record { same = λ u. refl; ends = λ more h. h; cases = empty_cases begins next e }
 
-  some_cases : (next : Option Kind) → (next ≡ Some right_paren → ⊥) → (parts : List T)
-      → ((p : T × (List T × Unit {0})) × (p.0 ∷ p.1.0 ≡ parts)) ⊎ Begins (to_paren pieces) never next parts
+  some_cases : (next : Option Kind) → (next ≡ Some close → ⊥) → (parts : List T)
+      → ((p : T × (List T × Unit {0})) × (p.0 ∷ p.1.0 ≡ parts)) ⊎ Begins (listed_to close pieces) never next parts
   some_cases next none [] = inr (λ more h e. none (sym e))
   some_cases next none (part ∷ parts) = inl ((part, (parts, tt)), refl)
 
-  some_case : (next : Option Kind) → (next ≡ Some right_paren → ⊥)
-      → IsCase (pair pieces (pair (each_after comma pieces) (single right_paren))) never (to_paren pieces) never next (λ p. p.0 ∷ p.1.0)
+  some_case : (next : Option Kind) → (next ≡ Some close → ⊥)
+      → IsCase (pair pieces (pair (each_after comma pieces) (single close))) never (listed_to close pieces) never next (λ p. p.0 ∷ p.1.0)
   some_case next none = record {
-    same = λ p. append_assoc (pieces p.0) (each_after comma pieces p.1.0) (terminal right_paren ∷ []);
+    same = λ p. append_assoc (pieces p.0) (each_after comma pieces p.1.0) (terminal close ∷ []);
     ends = λ more h. h;
     cases = some_cases next none;
   }
 
-  part_apart : Listed pieces longer → Apart longer (pair (each_after comma pieces) (single right_paren)) never
+  part_apart : Listed close pieces longer → Apart longer (pair (each_after comma pieces) (single close)) never
   part_apart l b more h = apart b.0 where
-    apart : (parts : List T) → Halts longer (kinds_of (each_after comma pieces parts ++ terminal right_paren ∷ []) ++ more)
-    apart [] = l.no_paren
+    apart : (parts : List T) → Halts longer (kinds_of (each_after comma pieces parts ++ terminal close ∷ []) ++ more)
+    apart [] = l.no_close
     apart (part ∷ parts) = l.no_comma
 
-  each_to_paren : Listed pieces longer → Apart (either comma longer) (single right_paren) never
-  each_to_paren l b more h = λ e. elim e [ inl same ↦ cc | inr other ↦ l.no_paren other ]
+  each_to_close : Listed close pieces longer → Apart (either comma longer) (single close) never
+  each_to_close l b more h = λ e. elim e [ inl same ↦ l.differs same | inr other ↦ l.no_close other ]
 
-pub parens_stuck : {T : Type 0} (pieces : T → List Piece) (longer : Kind → Type 0) {ts : List Token} {left : ℕ} → IsStuck (single left_paren) never ts left → IsStuck (listed_in_parens pieces) never ts left
-parens_stuck pieces longer h = stuck_as (parens_case pieces longer _) (stuck_start (to_paren pieces) [] h)
+module _ {T : Type 0} {close : Kind} {pieces : T → List Piece} {longer : Kind → Type 0} where
+  pub listed_empty : {ts rest : List Token} {parts : List T} → Listed close pieces longer → parts ≡ [] → StartsWith ts close rest → Parses (listed_to close pieces) never ts parts rest
+  listed_empty {ts} {rest = rest} l e s =
+      subst (λ ps. Parses (listed_to close pieces) never ts ps rest) (sym e) (parsed_as (empty_case close pieces longer l.begins _ (starts_first s)) (starts_parsed s))
 
-module _ {T : Type 0} {pieces : T → List Piece} {longer : Kind → Type 0} where
-  pub parens_empty : {ts inner rest : List Token} {parts : List T} → Listed pieces longer → parts ≡ [] → Parses (single left_paren) never ts tt inner → StartsWith inner right_paren rest
-      → Parses (listed_in_parens pieces) never ts parts rest
-  parens_empty {ts} {rest = rest} l e h s = subst (λ ps. Parses (listed_in_parens pieces) never ts ps rest) (sym e) (parsed_as (parens_case pieces longer _) (parsed_next h (parsed_as (empty_case pieces longer l.begins _ (starts_first s)) (starts_parsed s))))
+  pub listed_stuck_first : {ts : List Token} {left : ℕ} → Listed close pieces longer → (first_kind (token_kinds ts) ≡ Some close → ⊥)
+      → IsStuck pieces longer ts left → IsStuck (listed_to close pieces) never ts left
+  listed_stuck_first l none h =
+      stuck_as (some_case close pieces longer _ none) (stuck_first (pair (each_after comma pieces) (single close)) ([], tt) (part_apart close pieces longer l) h)
 
-  pub parens_stuck_first : {ts inner : List Token} {left : ℕ} → Listed pieces longer → Parses (single left_paren) never ts tt inner → (first_kind (token_kinds inner) ≡ Some right_paren → ⊥)
-      → IsStuck pieces longer inner left → IsStuck (listed_in_parens pieces) never ts left
-  parens_stuck_first l h none k =
-      stuck_as (parens_case pieces longer _) (stuck_next h
-      (stuck_as (some_case pieces longer _ none) (stuck_first (pair (each_after comma pieces) (single right_paren)) ([], tt) (part_apart pieces longer l) k)))
+  pub listed_stuck_each : {ts after : List Token} {part : T} {left : ℕ} → Listed close pieces longer → (first_kind (token_kinds ts) ≡ Some close → ⊥)
+      → Parses pieces longer ts part after → IsStuck (each_after comma pieces) (either comma longer) after left → IsStuck (listed_to close pieces) never ts left
+  listed_stuck_each l none h k =
+      stuck_as (some_case close pieces longer _ none) (stuck_then (part_apart close pieces longer l) h (stuck_first (single close) tt (each_to_close close pieces longer l) k))
 
-  pub parens_stuck_each : {ts inner after : List Token} {part : T} {left : ℕ} → Listed pieces longer → Parses (single left_paren) never ts tt inner → (first_kind (token_kinds inner) ≡ Some right_paren → ⊥)
-      → Parses pieces longer inner part after → IsStuck (each_after comma pieces) (either comma longer) after left → IsStuck (listed_in_parens pieces) never ts left
-  parens_stuck_each l h none k m =
-      stuck_as (parens_case pieces longer _) (stuck_next h
-      (stuck_as (some_case pieces longer _ none) (stuck_then (part_apart pieces longer l) k (stuck_first (single right_paren) tt (each_to_paren pieces longer l) m))))
+  pub listed_stuck_end : {ts after end : List Token} {part : T} {old new : List T} {left : ℕ} → Listed close pieces longer → (first_kind (token_kinds ts) ≡ Some close → ⊥)
+      → Parses pieces longer ts part after → Adds (each_after comma pieces) (either comma longer) after old new end → IsStuck (single close) never end left → IsStuck (listed_to close pieces) never ts left
+  listed_stuck_end l none h k m =
+      stuck_as (some_case close pieces longer _ none) (stuck_then (part_apart close pieces longer l) h (stuck_then (each_to_close close pieces longer l) k.parsed m))
 
-  pub parens_stuck_end : {ts inner after end : List Token} {part : T} {old new : List T} {left : ℕ} → Listed pieces longer → Parses (single left_paren) never ts tt inner → (first_kind (token_kinds inner) ≡ Some right_paren → ⊥)
-      → Parses pieces longer inner part after → Adds (each_after comma pieces) (either comma longer) after old new end → IsStuck (single right_paren) never end left → IsStuck (listed_in_parens pieces) never ts left
-  parens_stuck_end l h none k m n =
-      stuck_as (parens_case pieces longer _) (stuck_next h
-      (stuck_as (some_case pieces longer _ none) (stuck_then (part_apart pieces longer l) k (stuck_then (each_to_paren pieces longer l) m.parsed n))))
+  pub listed_parsed : {ts after end rest : List Token} {part : T} {old new : List T} → Listed close pieces longer → (first_kind (token_kinds ts) ≡ Some close → ⊥)
+      → Parses pieces longer ts part after → old ≡ part ∷ [] → Adds (each_after comma pieces) (either comma longer) after old new end → Parses (single close) never end tt rest
+      → Parses (listed_to close pieces) never ts new rest
+  listed_parsed {ts} {rest = rest} {part} l none h e k m =
+      let whole = k.added ∙ ap (λ xs. xs ++ k.parts) e in
+      subst (λ ps. Parses (listed_to close pieces) never ts ps rest) (sym whole)
+      (parsed_as (some_case close pieces longer _ none) (parsed_then (part_apart close pieces longer l) h (parsed_then (each_to_close close pieces longer l) k.parsed m)))
 
-  pub parens_parsed : {ts inner after end rest : List Token} {part : T} {old new : List T} → Listed pieces longer → Parses (single left_paren) never ts tt inner → (first_kind (token_kinds inner) ≡ Some right_paren → ⊥)
-      → Parses pieces longer inner part after → old ≡ part ∷ [] → Adds (each_after comma pieces) (either comma longer) after old new end → Parses (single right_paren) never end tt rest
-      → Parses (listed_in_parens pieces) never ts new rest
-  parens_parsed {ts} {rest = rest} {part} l h none k e m n =
-      let whole = m.added ∙ ap (λ xs. xs ++ m.parts) e in
-      subst (λ ps. Parses (listed_in_parens pieces) never ts ps rest) (sym whole)
-      (parsed_as (parens_case pieces longer _) (parsed_next h
-      (parsed_as (some_case pieces longer _ none) (parsed_then (part_apart pieces longer l) k (parsed_then (each_to_paren pieces longer l) m.parsed n)))))
+-- parts in parentheses
+pub parens_case : {T : Type 0} (pieces : T → List Piece) (next : Option Kind) → IsCase (pair (single left_paren) (listed_to right_paren pieces)) never (listed_in_parens pieces) never next (λ p. p.1)
+parens_case pieces next = record { same = λ p. refl; ends = λ more h. h; cases = λ ps. inl ((tt, ps), refl) }
+
+-- parts between braces, or a full stop
+abbrev pub to_brace : {T : Type 0} → (T → List Piece) → T → List Piece
+to_brace inner part = inner part ++ terminal right_brace ∷ []
+
+pub brace_case : {T : Type 0} (inner : T → List Piece) (next : Option Kind) → next ≡ Some left_brace → IsCase (pair (single left_brace) (to_brace inner)) never (dot_or_braces inner) never next (λ p. Some p.1)
+brace_case {T} inner next e = record { same = λ p. refl; ends = λ more h. h; cases = cases } where
+  cases : (o : Option T) → ((p : Unit {0} × T) × (Some p.1 ≡ o)) ⊎ Begins (dot_or_braces inner) never next o
+  cases None = inr (λ more h f. let both : Some dot ≡ Some left_brace = f ∙ e in cc)
+  cases (Some part) = inl ((tt, part), refl)
+
+pub dot_case : {T : Type 0} (inner : T → List Piece) (next : Option Kind) → (next ≡ Some left_brace → ⊥) → IsCase (single dot) never (dot_or_braces inner) never next (λ u. None)
+dot_case {T} inner next none = record { same = λ u. refl; ends = λ more h. h; cases = cases } where
+  cases : (o : Option T) → ((u : Unit {0}) × (None ≡ o)) ⊎ Begins (dot_or_braces inner) never next o
+  cases None = inl (tt, refl)
+  cases (Some part) = inr (λ more h e. none (sym e))

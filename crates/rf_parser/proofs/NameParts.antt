@@ -10,7 +10,7 @@ use Rattle.rf_syntax.specs.Name.{kind_of_name, name_pieces, symbol_pieces}
 use Rattle.rf_syntax.specs.Parts.{optional, optional_after}
 use Rattle.rf_syntax.specs.Terminals.{colon_colon}
 use Rattle.rf_parser.specs.Fit.{Fits, FitsPiece, token_kinds}
-use Rattle.rf_parser.specs.Private.Parsing.{BeginsNoName, Halts, IsNameKind, Parses, IsStuck, either, first_kind, never}
+use Rattle.rf_parser.specs.Private.Parsing.{BeginsNoName, Halts, IsNameKind, NeverBegins, Parses, IsStuck, either, first_kind, never}
 use Rattle.rf_parser.proofs.Prefixes.{halts_never}
 use Rattle.rf_parser.proofs.Singles.{parsed_token}
 use Rattle.rf_parser.proofs.Wholes.{Begins, IsCase, pair, parsed_as, parsed_nothing, stuck_here}
@@ -32,6 +32,9 @@ name_no_mark n m = kind_apart n.quoted n.text (Mark m) (λ e. cc) (λ e. cc)
 
 pub name_no_number : (n : Name) (v : ℕ) → kind_of_name n ≡ Number v → ⊥
 name_no_number n v = kind_apart n.quoted n.text (Number v) (λ e. cc) (λ e. cc)
+
+pub name_begins : (m : MarkType) → NeverBegins name_pieces (Mark m)
+name_begins m n more e = name_no_mark n m (let both = e in cc)
 
 pub mark_no_name : (m : MarkType) → IsNameKind (Mark m) → ⊥
 mark_no_name m h = name_no_mark h.0 m (sym h.1)

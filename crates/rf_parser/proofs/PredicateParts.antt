@@ -11,7 +11,7 @@ use Rattle.rf_syntax.specs.declared.predicate.Param.{Param}
 use Rattle.rf_syntax.specs.declared.predicate.PredicateWord.{PredicateWord}
 use Rattle.rf_syntax.specs.declared.predicate.PredicateWord.TheVariants.{Pred, Error, ErrorPred}
 use Rattle.rf_syntax.specs.declared.statement.Statement.{Statement}
-use Rattle.rf_syntax.specs.declared.statement.Statement.TheVariants.{Class, Predicate, Declare, Multi, Scope, Assert}
+use Rattle.rf_syntax.specs.declared.statement.Statement.TheVariants.{Class, Enum, Predicate, Declare, Multi, Atoms, Scope, Assert}
 use Rattle.rf_syntax.specs.Name.{name_pieces}
 use Rattle.rf_syntax.specs.Parts.{flagged, optional, optional_after, separated}
 use Rattle.rf_syntax.specs.Piece.{Piece, kinds_of, terminal}
@@ -66,9 +66,6 @@ param_case next = record { same = λ p. same p.0 p.1; ends = λ more h. h; cases
   made : (class : Option Name) (name : Name) → (p : Name × Option Name) × (param_of p.0 p.1 ≡ record { class = class; name = name })
   made None name = ((name, None), refl)
   made (Some first) name = ((first, Some name), refl)
-
-pub name_begins : NeverBegins name_pieces right_paren
-name_begins n more e = name_no_mark n RightParen (let both = e in cc)
 
 pub param_begins : NeverBegins param_pieces right_paren
 param_begins p more e = begins p.class p.name more e where
@@ -187,9 +184,11 @@ predicate_case next begins = record {
   cases : (s : Statement) → ((p : PredicateWord × (Name × (List Param × (Unit {0} × (NonEmpty (NonEmpty BodyLiteral) × Unit {0}))))) × (Predicate p.0 p.1.0 p.1.1.0 p.1.1.1.1.0 ≡ s)) ⊎ Begins statement_pieces never next s
   cases (Class true n s b) = inr (λ more h e. not_both _ (λ x. cc) (λ x. cc) e)
   cases (Class false n s b) = inr (λ more h e. not_both _ (λ x. cc) (λ x. cc) e)
+  cases (Enum n ls) = inr (λ more h e. not_both _ (λ x. cc) (λ x. cc) e)
   cases (Predicate start name params clauses) = inl ((start, (name, (params, (tt, (clauses, tt))))), refl)
   cases (Declare names) = inr (λ more h e. not_both _ (λ x. cc) (λ x. cc) e)
   cases (Multi items) = inr (λ more h e. not_both _ (λ x. cc) (λ x. cc) e)
+  cases (Atoms names) = inr (λ more h e. not_both _ (λ x. cc) (λ x. cc) e)
   cases (Scope bounds) = inr (λ more h e. not_both _ (λ x. cc) (λ x. cc) e)
   cases (Assert b a) = inr (λ more h e. (begun (Assert b a) more next e).no_predicate begins)
 

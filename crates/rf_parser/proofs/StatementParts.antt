@@ -8,16 +8,16 @@ use Rattle.rf_syntax.specs.declared.range.Upper.TheVariants.{Absent}
 use Rattle.rf_syntax.specs.declared.statement.Bound.{Bound}
 use Rattle.rf_syntax.specs.declared.statement.Item.{Item}
 use Rattle.rf_syntax.specs.declared.statement.Statement.{Statement}
-use Rattle.rf_syntax.specs.declared.statement.Statement.TheVariants.{Class, Predicate, Declare, Multi, Scope, Assert}
+use Rattle.rf_syntax.specs.declared.statement.Statement.TheVariants.{Class, Enum, Predicate, Declare, Multi, Atoms, Scope, Assert}
 use Rattle.rf_syntax.specs.Name.{name_pieces}
 use Rattle.rf_syntax.specs.Parts.{optional_after, separated}
 use Rattle.rf_syntax.specs.Piece.{Piece}
 use Rattle.rf_syntax.specs.Range.{range_pieces}
 use Rattle.rf_syntax.specs.Statement.{bound_pieces, item_pieces, statement_pieces}
-use Rattle.rf_syntax.specs.Terminals.{comma, declare_word, dot, dot_dot, equal, multi_word, plus_equal, scope_word}
+use Rattle.rf_syntax.specs.Terminals.{atom_word, comma, declare_word, dot, dot_dot, equal, multi_word, plus_equal, scope_word}
 use Rattle.rf_parser.specs.Private.Parts.{bound_mark, list_to_dot, single}
 use Rattle.rf_parser.specs.Private.Parsing.{either, never}
-use Rattle.rf_parser.proofs.Beginnings.{begun}
+use Rattle.rf_parser.proofs.Beginnings.{Begun, word_case}
 use Rattle.rf_parser.proofs.NameParts.{a_name}
 use Rattle.rf_parser.proofs.Wholes.{Apart, Begins, IsCase, pair}
 
@@ -52,34 +52,52 @@ module _ {T : Type 0} (pieces : T → List Piece) (longer : Kind → Type 0) whe
   dot_after none b more h = λ e. elim e [ inl same ↦ cc | inr other ↦ none other ]
 
 pub declare_case : (next : Option Kind) → next ≡ Some declare_word → IsCase (pair (single declare_word) (list_to_dot name_pieces)) never statement_pieces never next (λ p. Declare p.1)
-declare_case next e = record { same = λ p. refl; ends = λ more h. h; cases = cases } where
-  cases : (s : Statement) → ((p : Unit {0} × NonEmpty Name) × (Declare p.1 ≡ s)) ⊎ Begins statement_pieces never next s
-  cases (Class a n s b) = inr (λ more h f. elim (begun (Class a n s b) more next f) [ inl x ↦ (let both = sym e ∙ x in cc) | inr x ↦ (let both = sym e ∙ x in cc) ])
-  cases (Predicate a n p c) = inr (λ more h f. elim (begun (Predicate a n p c) more next f) [ inl x ↦ (let both = sym e ∙ x in cc) | inr x ↦ (let both = sym e ∙ x in cc) ])
-  cases (Declare names) = inl ((tt, names), refl)
-  cases (Multi items) = inr (λ more h f. let both = f ∙ e in cc)
-  cases (Scope bounds) = inr (λ more h f. let both = f ∙ e in cc)
-  cases (Assert b a) = inr (λ more h f. (begun (Assert b a) more next f).no_declare e)
+declare_case = word_case declare_word (list_to_dot name_pieces) Declare (λ names. refl) cases where
+  cases : (s : Statement) → ((names : NonEmpty Name) × (Declare names ≡ s)) ⊎ (Begun s (Some declare_word) → ⊥)
+  cases (Class a n s b) = inr (λ h. elim h [ inl x ↦ cc | inr x ↦ cc ])
+  cases (Enum n ls) = inr (λ h. cc)
+  cases (Predicate a n p c) = inr (λ h. elim h [ inl x ↦ cc | inr x ↦ cc ])
+  cases (Declare names) = inl (names, refl)
+  cases (Multi items) = inr (λ h. cc)
+  cases (Atoms names) = inr (λ h. cc)
+  cases (Scope bounds) = inr (λ h. cc)
+  cases (Assert b a) = inr (λ h. h.no_declare refl)
 
 pub multi_case : (next : Option Kind) → next ≡ Some multi_word → IsCase (pair (single multi_word) (list_to_dot item_pieces)) never statement_pieces never next (λ p. Multi p.1)
-multi_case next e = record { same = λ p. refl; ends = λ more h. h; cases = cases } where
-  cases : (s : Statement) → ((p : Unit {0} × NonEmpty Item) × (Multi p.1 ≡ s)) ⊎ Begins statement_pieces never next s
-  cases (Class a n s b) = inr (λ more h f. elim (begun (Class a n s b) more next f) [ inl x ↦ (let both = sym e ∙ x in cc) | inr x ↦ (let both = sym e ∙ x in cc) ])
-  cases (Predicate a n p c) = inr (λ more h f. elim (begun (Predicate a n p c) more next f) [ inl x ↦ (let both = sym e ∙ x in cc) | inr x ↦ (let both = sym e ∙ x in cc) ])
-  cases (Declare names) = inr (λ more h f. let both = f ∙ e in cc)
-  cases (Multi items) = inl ((tt, items), refl)
-  cases (Scope bounds) = inr (λ more h f. let both = f ∙ e in cc)
-  cases (Assert b a) = inr (λ more h f. (begun (Assert b a) more next f).no_multi e)
+multi_case = word_case multi_word (list_to_dot item_pieces) Multi (λ items. refl) cases where
+  cases : (s : Statement) → ((items : NonEmpty Item) × (Multi items ≡ s)) ⊎ (Begun s (Some multi_word) → ⊥)
+  cases (Class a n s b) = inr (λ h. elim h [ inl x ↦ cc | inr x ↦ cc ])
+  cases (Enum n ls) = inr (λ h. cc)
+  cases (Predicate a n p c) = inr (λ h. elim h [ inl x ↦ cc | inr x ↦ cc ])
+  cases (Declare names) = inr (λ h. cc)
+  cases (Multi items) = inl (items, refl)
+  cases (Atoms names) = inr (λ h. cc)
+  cases (Scope bounds) = inr (λ h. cc)
+  cases (Assert b a) = inr (λ h. h.no_multi refl)
+
+pub atoms_case : (next : Option Kind) → next ≡ Some atom_word → IsCase (pair (single atom_word) (list_to_dot name_pieces)) never statement_pieces never next (λ p. Atoms p.1)
+atoms_case = word_case atom_word (list_to_dot name_pieces) Atoms (λ names. refl) cases where
+  cases : (s : Statement) → ((names : NonEmpty Name) × (Atoms names ≡ s)) ⊎ (Begun s (Some atom_word) → ⊥)
+  cases (Class a n s b) = inr (λ h. elim h [ inl x ↦ cc | inr x ↦ cc ])
+  cases (Enum n ls) = inr (λ h. cc)
+  cases (Predicate a n p c) = inr (λ h. elim h [ inl x ↦ cc | inr x ↦ cc ])
+  cases (Declare names) = inr (λ h. cc)
+  cases (Multi items) = inr (λ h. cc)
+  cases (Atoms names) = inl (names, refl)
+  cases (Scope bounds) = inr (λ h. cc)
+  cases (Assert b a) = inr (λ h. h.no_atoms refl)
 
 pub scope_case : (next : Option Kind) → next ≡ Some scope_word → IsCase (pair (single scope_word) (list_to_dot bound_pieces)) never statement_pieces never next (λ p. Scope p.1)
-scope_case next e = record { same = λ p. refl; ends = λ more h. h; cases = cases } where
-  cases : (s : Statement) → ((p : Unit {0} × NonEmpty Bound) × (Scope p.1 ≡ s)) ⊎ Begins statement_pieces never next s
-  cases (Class a n s b) = inr (λ more h f. elim (begun (Class a n s b) more next f) [ inl x ↦ (let both = sym e ∙ x in cc) | inr x ↦ (let both = sym e ∙ x in cc) ])
-  cases (Predicate a n p c) = inr (λ more h f. elim (begun (Predicate a n p c) more next f) [ inl x ↦ (let both = sym e ∙ x in cc) | inr x ↦ (let both = sym e ∙ x in cc) ])
-  cases (Declare names) = inr (λ more h f. let both = f ∙ e in cc)
-  cases (Multi items) = inr (λ more h f. let both = f ∙ e in cc)
-  cases (Scope bounds) = inl ((tt, bounds), refl)
-  cases (Assert b a) = inr (λ more h f. (begun (Assert b a) more next f).no_scope e)
+scope_case = word_case scope_word (list_to_dot bound_pieces) Scope (λ bounds. refl) cases where
+  cases : (s : Statement) → ((bounds : NonEmpty Bound) × (Scope bounds ≡ s)) ⊎ (Begun s (Some scope_word) → ⊥)
+  cases (Class a n s b) = inr (λ h. elim h [ inl x ↦ cc | inr x ↦ cc ])
+  cases (Enum n ls) = inr (λ h. cc)
+  cases (Predicate a n p c) = inr (λ h. elim h [ inl x ↦ cc | inr x ↦ cc ])
+  cases (Declare names) = inr (λ h. cc)
+  cases (Multi items) = inr (λ h. cc)
+  cases (Atoms names) = inr (λ h. cc)
+  cases (Scope bounds) = inl (bounds, refl)
+  cases (Assert b a) = inr (λ h. h.no_scope refl)
 
 -- lists of one part, where any will do
 pub a_list : {T : Type 0} → T → NonEmpty T

@@ -3,6 +3,7 @@
 
 mod assertions;
 mod classes;
+mod enums;
 mod error;
 mod lists;
 mod names;

@@ -1,7 +1,7 @@
-ghost use Rattle.std.specs.Prelude.{IfOk, IfErr};
+ghost use Rattle.std.specs.Prelude.{◌≡◌, IfOk, IfErr};
 ghost use Rattle.rf_syntax.specs.Parts.{optional_after, each_after, separated};
 ghost use Rattle.rf_syntax.specs.Terminals.{comma, right_paren};
-ghost use Rattle.rf_parser.specs.Private.Parts.{kind_of, listed_in_parens};
+ghost use Rattle.rf_parser.specs.Private.Parts.{kind_of, listed_in_parens, listed_to};
 ghost use Rattle.rf_parser.specs.Private.Parsing.{never, either, NeverBegins, Parses, StopsAt, Adds};
 
 use crate::part::{Part, Stop};
@@ -81,6 +81,32 @@ pub fn parse_separated<T: Part>(
     Ok((NonEmpty { first, rest }, after))
 }
 
+// Parts with commas between them, up to the closing terminal. There may be none.
+pub fn parse_listed_to<T: Part>(
+    alloc: Global,
+    close: Terminal,
+    tokens: &[Token],
+) -> Result<(Items<T>, &[Token]), Stop>
+    requires differs { kind_of close ≡ comma → ⊥ }
+    requires comma { T.longer comma → ⊥ }
+    requires close { T.longer (kind_of close) → ⊥ }
+    requires begins { NeverBegins T.pieces (kind_of close) }
+    ensures ok { IfOk result (λ p.
+        Parses (listed_to (kind_of close) T.pieces) never tokens.now p.0 p.1.now) }
+    ensures stop { IfErr result (λ e.
+        StopsAt (listed_to (kind_of close) T.pieces) never tokens.now e) }
+{
+    let mut parts = Items::from_vec(Vec::new(alloc));
+    if let Some(rest) = accept(tokens, close) {
+        return Ok((parts, rest));
+    }
+    let (first, after) = T::parse(alloc, tokens)?;
+    parts.push(first)?;
+    let after = push_each_after(alloc, COMMA, &mut parts, after)?;
+    let rest = expect(after, close)?;
+    Ok((parts, rest))
+}
+
 // Parts with commas between them in parentheses. There may be none.
 pub fn parse_in_parens<T: Part>(
     alloc: Global,
@@ -94,13 +120,6 @@ pub fn parse_in_parens<T: Part>(
     ensures stop { IfErr result (λ e. StopsAt (listed_in_parens T.pieces) never tokens.now e) }
 {
     let inner = expect(tokens, Terminal::Mark(Mark::LeftParen))?;
-    let mut parts = Items::from_vec(Vec::new(alloc));
-    if let Some(rest) = accept(inner, Terminal::Mark(Mark::RightParen)) {
-        return Ok((parts, rest));
-    }
-    let (first, after) = T::parse(alloc, inner)?;
-    parts.push(first)?;
-    let after = push_each_after(alloc, COMMA, &mut parts, after)?;
-    let rest = expect(after, Terminal::Mark(Mark::RightParen))?;
+    let (parts, rest) = parse_listed_to(alloc, Terminal::Mark(Mark::RightParen), inner)?;
     Ok((parts, rest))
 }

@@ -1,12 +1,13 @@
 ghost use Rattle.std.specs.Prelude.{◌≡◌, Some, IfOk, IfErr};
 ghost use Rattle.rf_syntax.specs.Statement.{item_pieces, bound_pieces, statement_pieces};
-ghost use Rattle.rf_syntax.specs.Terminals.{declare_word, multi_word, scope_word, dot, dot_dot, comma, equal};
+ghost use Rattle.rf_syntax.specs.Terminals.{atom_word, declare_word, multi_word, scope_word, dot, dot_dot, comma, equal};
 ghost use Rattle.rf_parser.specs.Fit.{token_kinds};
 ghost use Rattle.rf_parser.specs.Private.Parts.{list_to_dot, bound_mark};
 ghost use Rattle.rf_parser.specs.Private.Parsing.{first_kind, never, either, Parses, StopsAt};
 
 use crate::assertions::parse_assert;
 use crate::classes::parse_class;
+use crate::enums::parse_enum;
 use crate::lists::{parse_optional_after, parse_separated};
 use crate::part::{Part, Stop};
 use crate::predicates::parse_predicate;
@@ -89,6 +90,16 @@ fn parse_multi(alloc: Global, tokens: &[Token]) -> Result<(Statement, &[Token]),
     Ok((Statement::Multi(items), rest))
 }
 
+fn parse_atoms(alloc: Global, tokens: &[Token]) -> Result<(Statement, &[Token]), Stop>
+    requires { first_kind (token_kinds tokens.now) ≡ Some atom_word }
+    ensures ok { IfOk result (λ p. Parses statement_pieces never tokens.now p.0 p.1.now) }
+    ensures stop { IfErr result (λ e. StopsAt statement_pieces never tokens.now e) }
+{
+    let rest = expect(tokens, Terminal::Word(Keyword::Atom))?;
+    let (names, rest) = parse_list(alloc, rest)?;
+    Ok((Statement::Atoms(names), rest))
+}
+
 fn parse_scope(alloc: Global, tokens: &[Token]) -> Result<(Statement, &[Token]), Stop>
     requires { first_kind (token_kinds tokens.now) ≡ Some scope_word }
     ensures ok { IfOk result (λ p. Parses statement_pieces never tokens.now p.0 p.1.now) }
@@ -110,6 +121,9 @@ impl Part for Statement {
         {
             return parse_class(alloc, tokens);
         }
+        if begins_with(tokens, Terminal::Word(Keyword::Enum)) {
+            return parse_enum(alloc, tokens);
+        }
         if begins_with(tokens, Terminal::Word(Keyword::Pred))
             || begins_with(tokens, Terminal::Word(Keyword::Error))
         {
@@ -120,6 +134,9 @@ impl Part for Statement {
         }
         if begins_with(tokens, Terminal::Word(Keyword::Multi)) {
             return parse_multi(alloc, tokens);
+        }
+        if begins_with(tokens, Terminal::Word(Keyword::Atom)) {
+            return parse_atoms(alloc, tokens);
         }
         if begins_with(tokens, Terminal::Word(Keyword::Scope)) {
             return parse_scope(alloc, tokens);

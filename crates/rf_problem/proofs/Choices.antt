@@ -36,21 +36,21 @@ module _ (chosen : Option ℕ → Bool) where
       or_right (v + suc k == v && chosen entry) (is_chosen entries (suc v) (v + suc k))
       (subst (λ u. is_chosen entries (suc v) u ≡ true) (suc-add v k ∙ sym (add-suc v k)) (is_chosen-from_entry entries (suc v) k (omega arith) h))
 
-  -- the picked assignment is this one but for the chosen variables, which stand for any elements below a bound
-  pub record Picks (entries : List (Option ℕ)) (v size : ℕ) (assignment picked : Assignment) : Type 0 where
-    pub inside : (u : ℕ) → is_chosen entries v u ≡ true → picked u < size
+  -- the picked assignment is this one but for the chosen variables, which stand for any of these elements
+  pub record Picks (entries : List (Option ℕ)) (v : ℕ) (Is : ℕ → Type 0) (assignment picked : Assignment) : Type 0 where
+    pub inside : (u : ℕ) → is_chosen entries v u ≡ true → Is (picked u)
     pub outside : (u : ℕ) → is_chosen entries v u ≡ false → picked u ≡ assignment u
 
   -- what follows for the first of the entries, where it is chosen
-  Picks-first : (entry : Option ℕ) (entries : List (Option ℕ)) (v size : ℕ) (assignment picked : Assignment) → chosen entry ≡ true
-      → Picks (entry ∷ entries) v size assignment picked → picked v < size
-  Picks-first entry entries v size assignment picked t c =
+  Picks-first : (entry : Option ℕ) (entries : List (Option ℕ)) (v : ℕ) (Is : ℕ → Type 0) (assignment picked : Assignment) → chosen entry ≡ true
+      → Picks (entry ∷ entries) v Is assignment picked → Is (picked v)
+  Picks-first entry entries v Is assignment picked t c =
       c.inside v (or_left (v == v && chosen entry) (is_chosen entries (suc v) v) (and_from (v == v) (chosen entry) (eq-eqb v v refl) t))
 
   -- and for the rest
-  Picks-rest : (entry : Option ℕ) (entries : List (Option ℕ)) (v size : ℕ) (assignment picked : Assignment)
-      → Picks (entry ∷ entries) v size assignment picked → Picks entries (suc v) size (assign assignment v (picked v)) picked
-  Picks-rest entry entries v size assignment picked c = record {
+  Picks-rest : (entry : Option ℕ) (entries : List (Option ℕ)) (v : ℕ) (Is : ℕ → Type 0) (assignment picked : Assignment)
+      → Picks (entry ∷ entries) v Is assignment picked → Picks entries (suc v) Is (assign assignment v (picked v)) picked
+  Picks-rest entry entries v Is assignment picked c = record {
     inside = λ u e. c.inside u (or_right (u == v && chosen entry) (is_chosen entries (suc v) u) e);
     outside = λ u e. elim (cases_Bool (u == v)) [
       | inl same ↦ rw same (ap picked (eqb-true u v same))
@@ -59,16 +59,16 @@ module _ (chosen : Option ℕ → Bool) where
   }
 
   -- where it isn't, only the rest counts
-  Picks-rest_alone : (entry : Option ℕ) (entries : List (Option ℕ)) (v size : ℕ) (assignment picked : Assignment) → chosen entry ≡ false
-      → Picks (entry ∷ entries) v size assignment picked → Picks entries (suc v) size assignment picked
-  Picks-rest_alone entry entries v size assignment picked f c = record {
+  Picks-rest_alone : (entry : Option ℕ) (entries : List (Option ℕ)) (v : ℕ) (Is : ℕ → Type 0) (assignment picked : Assignment) → chosen entry ≡ false
+      → Picks (entry ∷ entries) v Is assignment picked → Picks entries (suc v) Is assignment picked
+  Picks-rest_alone entry entries v Is assignment picked f c = record {
     inside = λ u e. c.inside u (or_right (u == v && chosen entry) (is_chosen entries (suc v) u) e);
     outside = λ u e. c.outside u (or_from (u == v && chosen entry) (is_chosen entries (suc v) u) (and_right (u == v) (chosen entry) f) e);
   }
 
-  Picks-from_rest_alone : (entry : Option ℕ) (entries : List (Option ℕ)) (v size : ℕ) (assignment picked : Assignment) → chosen entry ≡ false
-      → Picks entries (suc v) size assignment picked → Picks (entry ∷ entries) v size assignment picked
-  Picks-from_rest_alone entry entries v size assignment picked f c = record {
+  Picks-from_rest_alone : (entry : Option ℕ) (entries : List (Option ℕ)) (v : ℕ) (Is : ℕ → Type 0) (assignment picked : Assignment) → chosen entry ≡ false
+      → Picks entries (suc v) Is assignment picked → Picks (entry ∷ entries) v Is assignment picked
+  Picks-from_rest_alone entry entries v Is assignment picked f c = record {
     inside = λ u e. elim (or_cases (u == v && chosen entry) (is_chosen entries (suc v) u) e) [
       | inl at ↦ absurd (true≢false (sym (and_parts (u == v) (chosen entry) at).1 ∙ f))
       | inr later ↦ c.inside u later
@@ -76,12 +76,12 @@ module _ (chosen : Option ℕ → Bool) where
     outside = λ u e. c.outside u (or_parts (u == v && chosen entry) (is_chosen entries (suc v) u) e).1;
   }
 
-  Picks-from_rest : (entry : Option ℕ) (entries : List (Option ℕ)) (v size x : ℕ) (assignment picked : Assignment) → chosen entry ≡ true → x < size
-      → Picks entries (suc v) size (assign assignment v x) picked → Picks (entry ∷ entries) v size assignment picked
-  Picks-from_rest entry entries v size x assignment picked t l c = record {
+  Picks-from_rest : (entry : Option ℕ) (entries : List (Option ℕ)) (v : ℕ) (Is : ℕ → Type 0) (x : ℕ) (assignment picked : Assignment) → chosen entry ≡ true → Is x
+      → Picks entries (suc v) Is (assign assignment v x) picked → Picks (entry ∷ entries) v Is assignment picked
+  Picks-from_rest entry entries v Is x assignment picked t l c = record {
     inside = λ u e. elim (or_cases (u == v && chosen entry) (is_chosen entries (suc v) u) e) [
       | inl at ↦ (let place = eqb-true u v (and_parts (u == v) (chosen entry) at).0 in
-          subst (λ m. picked m < size) (sym place) (subst (λ m. m < size) (sym own) l))
+          subst (λ m. Is (picked m)) (sym place) (subst Is (sym own) l))
       | inr later ↦ c.inside u later
     ];
     outside = λ u e. (let parts = or_parts (u == v && chosen entry) (is_chosen entries (suc v) u) e in
@@ -95,36 +95,38 @@ module _ (chosen : Option ℕ → Bool) where
           let here : assign assignment v x v ≡ x = rw same refl in
           c.outside v (is_chosen-before entries (suc v) v (omega arith)) ∙ here
 
-  module _ (here : Reading) (all : (x : ℕ) → here.present x ≡ true) (test : Assignment → Bool) where
+  module _ (here : Reading) (Is : ℕ → Type 0) (within : (x : ℕ) → Is x → (x < here.size) × (here.present x ≡ true))
+      (are : (x : ℕ) → x < here.size → here.present x ≡ true → Is x) (test : Assignment → Bool) where
     -- whether an element for variable v leads on to an assignment that passes
     abbrev leads_on : List (Option ℕ) → ℕ → Assignment → ℕ → Bool
     leads_on entries v assignment x = here.present x && some_assignment here chosen entries (suc v) (assign assignment v x) test
 
     -- some assignment passes where the one that is picked does
-    pub some_assignment-from_one : (entries : List (Option ℕ)) (v : ℕ) (assignment picked : Assignment) → Picks entries v here.size assignment picked
+    pub some_assignment-from_one : (entries : List (Option ℕ)) (v : ℕ) (assignment picked : Assignment) → Picks entries v Is assignment picked
         → test picked ≡ true → some_assignment here chosen entries v assignment test ≡ true
     some_assignment-from_one [] v assignment picked c h = subst (λ (f : Assignment). test f ≡ true) (λ j u. c.outside u refl j) h
     some_assignment-from_one (entry ∷ entries) v assignment picked c h = elim (cases_Bool (chosen entry)) [
-      | inl t ↦ (let found : leads_on entries v assignment (picked v) ≡ true =
-          and_from (here.present (picked v)) (some_assignment here chosen entries (suc v) (assign assignment v (picked v)) test) (all (picked v))
-          (some_assignment-from_one entries (suc v) (assign assignment v (picked v)) picked (Picks-rest entry entries v here.size assignment picked c) h) in
-          rw t (some_below-from_one here.size (leads_on entries v assignment) (picked v) (Picks-first entry entries v here.size assignment picked t c) found))
-      | inr f ↦ rw f (some_assignment-from_one entries (suc v) assignment picked (Picks-rest_alone entry entries v here.size assignment picked f c) h)
+      | inl t ↦ (let own = Picks-first entry entries v Is assignment picked t c in
+          let found : leads_on entries v assignment (picked v) ≡ true =
+          and_from (here.present (picked v)) (some_assignment here chosen entries (suc v) (assign assignment v (picked v)) test) (within (picked v) own).1
+          (some_assignment-from_one entries (suc v) (assign assignment v (picked v)) picked (Picks-rest entry entries v Is assignment picked c) h) in
+          rw t (some_below-from_one here.size (leads_on entries v assignment) (picked v) (within (picked v) own).0 found))
+      | inr f ↦ rw f (some_assignment-from_one entries (suc v) assignment picked (Picks-rest_alone entry entries v Is assignment picked f c) h)
     ]
 
     -- and where one passes, one that does can be picked
     pub one-from_some_assignment : (entries : List (Option ℕ)) (v : ℕ) (assignment : Assignment) → some_assignment here chosen entries v assignment test ≡ true
-        → (picked : Assignment) × Picks entries v here.size assignment picked × (test picked ≡ true)
+        → (picked : Assignment) × Picks entries v Is assignment picked × (test picked ≡ true)
     one-from_some_assignment [] v assignment h = (assignment, record { inside = λ u e. absurd (true≢false (sym e)); outside = λ u e. refl }, h)
     one-from_some_assignment (entry ∷ entries) v assignment h = elim (cases_Bool (chosen entry)) [
       | inl t ↦ (let some : some_below here.size (leads_on entries v assignment) ≡ true = rw t at h in
           let one = one-from_some_below here.size (leads_on entries v assignment) some in
           let parts = and_parts (here.present one.0) (some_assignment here chosen entries (suc v) (assign assignment v one.0) test) one.2 in
           let r = one-from_some_assignment entries (suc v) (assign assignment v one.0) parts.1 in
-          (r.0, Picks-from_rest entry entries v here.size one.0 assignment r.0 t one.1 r.1, r.2))
+          (r.0, Picks-from_rest entry entries v Is one.0 assignment r.0 t (are one.0 one.1 parts.0) r.1, r.2))
       | inr f ↦ (let some : some_assignment here chosen entries (suc v) assignment test ≡ true = rw f at h in
           let r = one-from_some_assignment entries (suc v) assignment some in
-          (r.0, Picks-from_rest_alone entry entries v here.size assignment r.0 f r.1, r.2))
+          (r.0, Picks-from_rest_alone entry entries v Is assignment r.0 f r.1, r.2))
     ]
 
 -- the variables that range inside the negation of literal i are those with that entry

@@ -7,8 +7,15 @@ pub mod CallLemmas
 pub mod Choices
 pub mod CycleLemmas
 pub mod Depth
+pub mod Following
 pub mod HeardLemmas
 pub mod KeyLemmas
 pub mod StockLemmas
 pub mod TableLemmas
 pub mod ProblemLemmas
+pub mod Agreements
+pub mod ChosenAtoms
+pub mod Fitting
+pub mod Holding
+pub mod HoldingLiterals
+pub mod Meanings

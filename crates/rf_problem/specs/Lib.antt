@@ -7,6 +7,8 @@ pub mod Contained
 pub mod Merged
 pub mod Asserted
 pub mod Reading
+pub mod Holds
+pub mod Follows
 pub mod Laws
 -- what only the contracts of private functions cite, and lemmas
 pub mod Above

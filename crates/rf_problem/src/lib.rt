@@ -31,7 +31,7 @@ pub use assertions::Assertions;
 pub use class::Class;
 pub use class_order::ClassOrder;
 pub use heard::Heard;
-pub use laws::{below_law, depth_law, problem_law};
+pub use laws::{below_law, depth_law, following_law, meaning_law, problem_law};
 pub use object::{ObjectDecl, ObjectKind, ObjectName};
 pub use predicate::{Clause, Literal, Predicate, Term};
 pub use problem::Problem;

@@ -1,6 +1,6 @@
 -- The literals of a clause, one more at a time.
 use Rattle.std.proofs.Common.{◌≡◌, ◌<◌, ◌≤◌, ◌+◌, ℕ, suc, List, [], ◌∷◌, ◌++◌, length, map, take, drop, get_or, append_assoc, arith, refl, sym, ap, ◌∙◌}
-use Rattle.std.proofs.lemmas.List.{append-nil, length-take-le, take-append-drop, take_more}
+use Rattle.std.proofs.lemmas.List.{append-nil, length-take-le, map-append, take-append-drop, take_more}
 use Rattle.std.proofs.lemmas.List.Concat.{flat_map-append}
 use Rattle.rf_problem.specs.declared.predicate.Literal.{Literal}
 use Rattle.rf_syntax.specs.declared.name.Name.{Name}
@@ -12,102 +12,88 @@ use Rattle.rf_resolve.specs.Resolved.{class_literal, class_literals, resolved_li
 use Rattle.rf_names.proofs.MapLemmas.{map_one_more}
 use Rattle.rf_names.proofs.VariableLemmas.{with_variables-append, with_variables-longer}
 
--- the variables after one literal more
-names-snoc : (known : List Name) (ls : List BodyLiteral) (l : BodyLiteral) →
-    with_variables known (clause_names (ls ++ l ∷ []))
-    ≡ with_variables (with_variables known (clause_names ls)) (literal_names l)
-names-snoc known ls l =
-    ap (with_variables known) (flat_map-append literal_names ls (l ∷ [])
-    ∙ ap (λ ns. clause_names ls ++ ns) (append-nil (literal_names l)))
-    ∙ with_variables-append known (clause_names ls) (literal_names l)
+module _ (d : Declared) (params : List Param) where
+  -- the variables after one literal more
+  names-snoc : (known : List Name) (ls : List BodyLiteral) (l : BodyLiteral) →
+      with_variables known (clause_names d params (ls ++ l ∷ []))
+      ≡ with_variables (with_variables known (clause_names d params ls)) (literal_names d params l)
+  names-snoc known ls l =
+      ap (with_variables known) (flat_map-append (literal_names d params) ls (l ∷ [])
+      ∙ ap (λ ns. clause_names d params ls ++ ns) (append-nil (literal_names d params l)))
+      ∙ with_variables-append known (clause_names d params ls) (literal_names d params l)
 
-resolved-append :
-    (d : Declared) (known : List Name) (ls ms : List BodyLiteral) →
-    resolved_literals d known (ls ++ ms) ≡ resolved_literals d known ls
-    ++ resolved_literals d (with_variables known (clause_names ls)) ms
-resolved-append d known [] ms = refl
-resolved-append d known (l ∷ ls) ms =
-    ap (λ rs. resolved_literal d known l ∷ rs)
-    (resolved-append d (with_variables known (literal_names l)) ls ms
-    ∙ ap (λ vs. resolved_literals d (with_variables known (literal_names l)) ls
-    ++ resolved_literals d vs ms)
-    (sym (with_variables-append known (literal_names l) (clause_names ls))))
+  resolved-append : (known : List Name) (ls ms : List BodyLiteral) →
+      resolved_literals d params known (ls ++ ms)
+      ≡ resolved_literals d params known ls ++ resolved_literals d params (with_variables known (clause_names d params ls)) ms
+  resolved-append known [] ms = refl
+  resolved-append known (l ∷ ls) ms =
+      let after : List Name = with_variables known (literal_names d params l) in
+      ap (λ rs. resolved_literal d params known l ∷ rs)
+      (resolved-append after ls ms
+      ∙ ap (λ vs. resolved_literals d params after ls ++ resolved_literals d params vs ms)
+      (sym (with_variables-append known (literal_names d params l) (clause_names d params ls))))
 
--- a loop's step over the literals, each of which is made of an item
-pub clause_names_more :
-    {X : Type 0} (f : X → BodyLiteral) (known : List Name) (xs : List X) (i : ℕ) (x : X) →
-    i < length xs → x ≡ get_or xs i x →
-    with_variables known (clause_names (map f (take (i + 1) xs)))
-    ≡ with_variables (with_variables known (clause_names (map f (take i xs))))
-    (literal_names (f x))
-clause_names_more f known xs i x below is =
-    ap (λ ls. with_variables known (clause_names ls)) (map_one_more f xs i x below is)
-    ∙ names-snoc known (map f (take i xs)) (f x)
+  -- a loop's step over the literals, each of which is made of an item
+  clause_names_more :
+      {X : Type 0} (f : X → BodyLiteral) (known : List Name) (xs : List X) (i : ℕ) (x : X) → i < length xs → x ≡ get_or xs i x →
+      with_variables known (clause_names d params (map f (take (i + 1) xs)))
+      ≡ with_variables (with_variables known (clause_names d params (map f (take i xs)))) (literal_names d params (f x))
+  clause_names_more f known xs i x below is =
+      ap (λ ls. with_variables known (clause_names d params ls)) (map_one_more f xs i x below is)
+      ∙ names-snoc known (map f (take i xs)) (f x)
 
-pub resolved_literals_more :
-    {X : Type 0} (f : X → BodyLiteral) (d : Declared) (known : List Name) (xs : List X) (i : ℕ)
-    (x : X) → i < length xs → x ≡ get_or xs i x →
-    resolved_literals d known (map f (take (i + 1) xs)) ≡
-    resolved_literals d known (map f (take i xs))
-    ++ resolved_literal d (with_variables known (clause_names (map f (take i xs)))) (f x) ∷ []
-resolved_literals_more f d known xs i x below is =
-    ap (resolved_literals d known) (map_one_more f xs i x below is)
-    ∙ resolved-append d known (map f (take i xs)) (f x ∷ [])
+  resolved_literals_more :
+      {X : Type 0} (f : X → BodyLiteral) (known : List Name) (xs : List X) (i : ℕ) (x : X) → i < length xs → x ≡ get_or xs i x →
+      resolved_literals d params known (map f (take (i + 1) xs))
+      ≡ resolved_literals d params known (map f (take i xs))
+      ++ resolved_literal d params (with_variables known (clause_names d params (map f (take i xs)))) (f x) ∷ []
+  resolved_literals_more f known xs i x below is =
+      ap (resolved_literals d params known) (map_one_more f xs i x below is)
+      ∙ resolved-append known (map f (take i xs)) (f x ∷ [])
 
--- after some of the literals there are no more variables than after all
-names-part : (known : List Name) (ls ms : List BodyLiteral) →
-    length (with_variables known (clause_names ls)) ≤ length
-    (with_variables known (clause_names (ls ++ ms)))
-names-part known ls ms =
-    let more = with_variables-longer (with_variables known (clause_names ls)) (clause_names ms) in
-    let all : with_variables known (clause_names (ls ++ ms))
-    ≡ with_variables (with_variables known (clause_names ls)) (clause_names ms) =
-    ap (with_variables known) (flat_map-append literal_names ls ms)
-    ∙ with_variables-append known (clause_names ls) (clause_names ms) in
-    rw all more
+  -- after some of the literals there are no more variables than after all
+  names-part : (known : List Name) (ls ms : List BodyLiteral) →
+      length (with_variables known (clause_names d params ls)) ≤ length (with_variables known (clause_names d params (ls ++ ms)))
+  names-part known ls ms =
+      let more = with_variables-longer (with_variables known (clause_names d params ls)) (clause_names d params ms) in
+      let all : with_variables known (clause_names d params (ls ++ ms))
+      ≡ with_variables (with_variables known (clause_names d params ls)) (clause_names d params ms) =
+      ap (with_variables known) (flat_map-append (literal_names d params) ls ms)
+      ∙ with_variables-append known (clause_names d params ls) (clause_names d params ms) in
+      rw all more
 
-map-append : {X Y : Type 0} (f : X → Y) (xs ys : List X) → map f (xs ++ ys) ≡ map f xs ++ map f ys
-map-append f [] ys = refl
-map-append f (x ∷ xs) ys = ap (λ zs. f x ∷ zs) (map-append f xs ys)
+  pub clause_names_few :
+      {X : Type 0} (f : X → BodyLiteral) (known : List Name) (xs : List X) (i : ℕ) (x : X) (limit : ℕ) → i < length xs →
+      x ≡ get_or xs i x → length (with_variables known (clause_names d params (map f xs))) ≤ limit →
+      length (with_variables (with_variables known (clause_names d params (map f (take i xs)))) (literal_names d params (f x))) ≤ limit
+  clause_names_few f known xs i x limit below is few =
+      let whole : map f xs ≡ map f (take (i + 1) xs) ++ map f (drop (i + 1) xs) =
+      ap (map f) (sym (take-append-drop (i + 1) xs)) ∙ map-append f (take (i + 1) xs) (drop (i + 1) xs) in
+      let part = names-part known (map f (take (i + 1) xs)) (map f (drop (i + 1) xs)) in
+      let all = ap (λ ls. length (with_variables known (clause_names d params ls))) whole in
+      let more = ap length (clause_names_more f known xs i x below is) in
+      omega arith
 
-pub clause_names_few :
-    {X : Type 0} (f : X → BodyLiteral) (known : List Name) (xs : List X) (i : ℕ) (x : X)
-    (limit : ℕ) → i < length xs → x ≡ get_or xs i x →
-    length (with_variables known (clause_names (map f xs))) ≤ limit →
-    length (with_variables (with_variables known (clause_names (map f (take i xs))))
-    (literal_names (f x))) ≤ limit
-clause_names_few f known xs i x limit below is few =
-    let whole : map f xs ≡ map f (take (i + 1) xs) ++ map f (drop (i + 1) xs) =
-    ap (map f) (sym (take-append-drop (i + 1) xs))
-    ∙ map-append f (take (i + 1) xs) (drop (i + 1) xs) in
-    let part = names-part known (map f (take (i + 1) xs)) (map f (drop (i + 1) xs)) in
-    let all = ap (λ ls. length (with_variables known (clause_names ls))) whole in
-    let more = ap length (clause_names_more f known xs i x below is) in
-    omega arith
+  pub known_step :
+      {X : Type 0} (f : X → BodyLiteral) (known : List Name) (xs : List X) (i : ℕ) (x : X) (now new : List Name) →
+      i < length xs → x ≡ get_or xs i x → now ≡ with_variables known (clause_names d params (map f (take i xs))) →
+      new ≡ with_variables now (literal_names d params (f x)) →
+      new ≡ with_variables known (clause_names d params (map f (take (i + 1) xs)))
+  known_step f known xs i x now new below is before step =
+      step ∙ ap (λ vs. with_variables vs (literal_names d params (f x))) before
+      ∙ sym (clause_names_more f known xs i x below is)
 
-pub known_step :
-    {X : Type 0} (f : X → BodyLiteral) (known : List Name) (xs : List X) (i : ℕ) (x : X)
-    (now new : List Name) → i < length xs → x ≡ get_or xs i x →
-    now ≡ with_variables known (clause_names (map f (take i xs))) →
-    new ≡ with_variables now (literal_names (f x)) →
-    new ≡ with_variables known (clause_names (map f (take (i + 1) xs)))
-known_step f known xs i x now new below is before step =
-    step ∙ ap (λ vs. with_variables vs (literal_names (f x))) before
-    ∙ sym (clause_names_more f known xs i x below is)
-
-pub written_step :
-    {X : Type 0} (f : X → BodyLiteral) (d : Declared) (known : List Name) (xs : List X) (i : ℕ)
-    (x : X) (now : List Name) (written new : List Literal) (l : Literal) →
-    i < length xs → x ≡ get_or xs i x →
-    now ≡ with_variables known (clause_names (map f (take i xs))) →
-    written ≡ resolved_literals d known (map f (take i xs)) → l ≡ resolved_literal d now (f x) →
-    new ≡ written ++ l ∷ [] →
-    new ≡ resolved_literals d known (map f (take (i + 1) xs))
-written_step f d known xs i x now written new l below is before so_far here step =
-    step ∙ ap (λ ls. ls ++ l ∷ []) so_far
-    ∙ ap (λ m. resolved_literals d known (map f (take i xs)) ++ m ∷ [])
-    (here ∙ ap (λ vs. resolved_literal d vs (f x)) before)
-    ∙ sym (resolved_literals_more f d known xs i x below is)
+  pub written_step :
+      {X : Type 0} (f : X → BodyLiteral) (known : List Name) (xs : List X) (i : ℕ) (x : X) (now : List Name)
+      (written new : List Literal) (l : Literal) → i < length xs → x ≡ get_or xs i x →
+      now ≡ with_variables known (clause_names d params (map f (take i xs))) →
+      written ≡ resolved_literals d params known (map f (take i xs)) → l ≡ resolved_literal d params now (f x) →
+      new ≡ written ++ l ∷ [] → new ≡ resolved_literals d params known (map f (take (i + 1) xs))
+  written_step f known xs i x now written new l below is before so_far here step =
+      step ∙ ap (λ ls. ls ++ l ∷ []) so_far
+      ∙ ap (λ m. resolved_literals d params known (map f (take i xs)) ++ m ∷ [])
+      (here ∙ ap (λ vs. resolved_literal d params vs (f x)) before)
+      ∙ sym (resolved_literals_more f known xs i x below is)
 
 -- a loop's step over the typed parameters
 class_literals-snoc :

@@ -12,14 +12,15 @@ use Rattle.rf_problem.specs.Parts.{no_predicate, predicate_at}
 use Rattle.rf_problem.specs.Valid.{calls, calls_predicate}
 use Rattle.rf_problem.specs.declared.predicate.Literal.TheVariants.{Call as Calls}
 use Rattle.rf_problem.specs.declared.predicate.Predicate.{Predicate}
+use Rattle.rf_problem.specs.declared.predicate.Term.{Term}
 use Rattle.rf_problem.specs.declared.symbol.Symbol.TheVariants.{Class, Reference, Predicate as Defined, Exists, Equals}
 use Rattle.rf_syntax.specs.declared.name.Name.{Name}
 use Rattle.rf_syntax.specs.declared.predicate.BodyLiteral.{BodyLiteral}
 use Rattle.rf_syntax.specs.declared.predicate.BodyLiteral.TheVariants.{Call, Same, Differ}
 use Rattle.rf_syntax.specs.declared.predicate.Param.{Param}
-use Rattle.rf_names.specs.Bodies.{called_by, calls_directly, is_called_from, leads_to, literal_names, param_names, predicate_of, with_variables}
+use Rattle.rf_names.specs.Bodies.{called_by, calls_directly, is_called_from, leads_to, literal_names, predicate_of, with_variables}
+use Rattle.rf_names.specs.Declarations.{Declared, param_names, PredicateDecl}
 use Rattle.rf_names.specs.LookUp.{is_number, literal_symbols, no_predicate_decl, predicate_decl_at, sense_of, the_symbol}
-use Rattle.rf_names.specs.Declarations.{Declared, PredicateDecl}
 use Rattle.rf_clause_rules.specs.ClauseOffsets.{leads_back_to, recursive_literal, recursive_offsets}
 use Rattle.rf_resolve.specs.Resolved.{all_literals, class_literal, class_literals, resolved_clause, resolved_literal, resolved_literals, resolved_predicate}
 use Rattle.rf_names.specs.declared.sense.Sense.{Sense}
@@ -36,7 +37,7 @@ any-map p f (x ∷ xs) h = elim (or_cases (p (f x)) (list_any p (map f xs)) h) [
 
 -- a symbol that is a predicate is what the name stands for
 called-from_symbol :
-    (q : ℕ) (sense : Sense) (negated closure : Bool) (args : List ℕ) → calls_predicate q (Calls negated closure (the_symbol sense) args) ≡ true →
+    (q : ℕ) (sense : Sense) (negated closure : Bool) (args : List Term) → calls_predicate q (Calls negated closure (the_symbol sense) args) ≡ true →
     is_number q (predicate_of sense) ≡ true
 called-from_symbol q Nothing negated closure args h = absurd (true≢false (sym h))
 called-from_symbol q (One (Class c)) negated closure args h = absurd (true≢false (sym h))
@@ -60,22 +61,26 @@ module _ (d : Declared) where
   pub predicate_at-made : (q : ℕ) → predicate_at predicates_made q ≡ resolved_predicate d (predicate_decl_at d q)
   predicate_at-made q = made-at d.predicates q
 
-  literal_calls : (q : ℕ) (known : List Name) (l : BodyLiteral) → calls_predicate q (resolved_literal d known l) ≡ true → is_number q (called_by d l) ≡ true
-  literal_calls q known (Call negated symbol closure args) h =
+  literal_calls : (q : ℕ) (params : List Param) (known : List Name) (l : BodyLiteral) →
+      calls_predicate q (resolved_literal d params known l) ≡ true → is_number q (called_by d l) ≡ true
+  literal_calls q params known (Call negated symbol closure args) h =
       called-from_symbol q (sense_of (literal_symbols d symbol)) negated closure _ h
-  literal_calls q known (Same a b) h = absurd (true≢false (sym h))
-  literal_calls q known (Differ a b) h = absurd (true≢false (sym h))
+  literal_calls q params known (Same a b) h = absurd (true≢false (sym h))
+  literal_calls q params known (Differ a b) h = absurd (true≢false (sym h))
 
   literals_call :
-      (q : ℕ) (known : List Name) (ls : List BodyLiteral) → list_any (calls_predicate q) (resolved_literals d known ls) ≡ true →
+      (q : ℕ) (params : List Param) (known : List Name) (ls : List BodyLiteral) →
+      list_any (calls_predicate q) (resolved_literals d params known ls) ≡ true →
       list_any (λ l. is_number q (called_by d l)) ls ≡ true
-  literals_call q known [] h = h
-  literals_call q known (l ∷ ls) h =
-      let behind : List Name = with_variables known (literal_names l) in
-      elim (or_cases (calls_predicate q (resolved_literal d known l)) (list_any (calls_predicate q) (resolved_literals d behind ls)) h) [
-        | inl here ↦ or_left (is_number q (called_by d l)) (list_any (λ m. is_number q (called_by d m)) ls) (literal_calls q known l here)
+  literals_call q params known [] h = h
+  literals_call q params known (l ∷ ls) h =
+      let after : List Name = with_variables known (literal_names d params l) in
+      elim (or_cases (calls_predicate q (resolved_literal d params known l))
+      (list_any (calls_predicate q) (resolved_literals d params after ls)) h) [
+        | inl here ↦ or_left (is_number q (called_by d l)) (list_any (λ m. is_number q (called_by d m)) ls)
+            (literal_calls q params known l here)
         | inr later ↦ or_right (is_number q (called_by d l)) (list_any (λ m. is_number q (called_by d m)) ls)
-            (literals_call q behind ls later)
+            (literals_call q params after ls later)
       ]
 
   -- the literals of typed parameters call no predicate
@@ -96,10 +101,10 @@ module _ (d : Declared) where
       (q : ℕ) (params : List Param) (clause : List BodyLiteral) → list_any (calls_predicate q) (all_literals d params clause) ≡ true →
       list_any (λ l. is_number q (called_by d l)) clause ≡ true
   clause_calls q params clause h =
-      elim (or_cases (list_any (calls_predicate q) (resolved_literals d (param_names params) clause))
+      elim (or_cases (list_any (calls_predicate q) (resolved_literals d params (param_names params) clause))
       (list_any (calls_predicate q) (class_literals d 0 params))
-      (sym (list_any-append (calls_predicate q) (resolved_literals d (param_names params) clause) (class_literals d 0 params)) ∙ h)) [
-        | inl written ↦ literals_call q (param_names params) clause written
+      (sym (list_any-append (calls_predicate q) (resolved_literals d params (param_names params) clause) (class_literals d 0 params)) ∙ h)) [
+        | inl written ↦ literals_call q params (param_names params) clause written
         | inr typed ↦ absurd (class_literals_call q 0 params typed)
       ]
 

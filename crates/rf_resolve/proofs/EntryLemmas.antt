@@ -1,5 +1,5 @@
 -- The one position at which an item passes, where there is one alone.
-use Rattle.std.proofs.Common.{◌≡◌, ◌≢◌, ◌<◌, ◌+◌, ◌∙◌, ℕ, zero, suc, Bool, true, List, [], ◌∷◌, ◌++◌, length, map, get_or, cond, None, Some, arith, refl, sym, ap, inl, inr}
+use Rattle.std.proofs.Common.{◌≡◌, ◌≢◌, ◌<◌, ◌+◌, ◌∙◌, ℕ, zero, suc, Bool, true, false, List, [], ◌∷◌, ◌++◌, length, map, get_or, cond, None, Some, arith, refl, sym, ap, inl, inr}
 use Rattle.std.specs.Prelude.{count_by, nat_lt, position}
 use Rattle.std.specs.List.{position_or_len, range_with_len}
 use Rattle.std.proofs.lemmas.Bool.{cases_Bool, lt-ltb}
@@ -7,9 +7,15 @@ use Rattle.std.proofs.lemmas.List.Sums.{sum_by-cons}
 use Rattle.rf_names.specs.LookUp.{numbers_where}
 use Rattle.rf_resolve.specs.Resolved.{only_one}
 
-counted : {X : Type 0} (p : X → Bool) (x : X) (xs : List X) → count_by p (x ∷ xs)
+pub counted : {X : Type 0} (p : X → Bool) (x : X) (xs : List X) → count_by p (x ∷ xs)
     ≡ cond (p x) 1 0 + count_by p xs
 counted p x xs = sum_by-cons (λ y. cond (p y) 1 0) x xs
+
+pub counted_one : {X : Type 0} (p : X → Bool) (x : X) (xs : List X) → p x ≡ true → count_by p (x ∷ xs) ≡ suc (count_by p xs)
+counted_one p x xs h = counted p x xs ∙ ap (λ b. cond b 1 0 + count_by p xs) h ∙ omega arith
+
+pub counted_none : {X : Type 0} (p : X → Bool) (x : X) (xs : List X) → p x ≡ false → count_by p (x ∷ xs) ≡ count_by p xs
+counted_none p x xs h = counted p x xs ∙ ap (λ b. cond b 1 0 + count_by p xs) h ∙ omega arith
 
 numbered : {X : Type 0} (p : X → Bool) (n : ℕ) (x : X) (xs : List X) →
     length (numbers_where n p (x ∷ xs)) ≡ cond (p x) 1 0 + length (numbers_where (suc n) p xs)

@@ -5,7 +5,8 @@ use Rattle.std.proofs.lemmas.Bool.{both_ways, cases_Bool, or_from, or_left, or_p
 use Rattle.std.proofs.lemmas.List.Elements.{All-cons, All-nil}
 use Rattle.std.proofs.lemmas.Slice.Eq.{bytes_eq-Decides}
 use Rattle.rf_syntax.specs.declared.name.Name.{Name}
-use Rattle.rf_names.specs.LookUp.{first_of_each, is_text_of}
+use Rattle.rf_names.specs.LookUp.{first_of_each}
+use Rattle.rf_names.specs.Texts.{is_text_of}
 use Rattle.rf_names.specs.Offsets.{offset_if}
 use Rattle.rf_name_rules.specs.RuleOffsets.{repeated}
 use Rattle.rf_resolve.proofs.ClearOffsets.{nil-parts, offset_if-nil}

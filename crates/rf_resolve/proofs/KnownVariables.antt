@@ -9,7 +9,7 @@ use Rattle.std.proofs.lemmas.List.Folds.{list_any_at}
 use Rattle.std.proofs.lemmas.List.Quantifiers.{position-Some}
 use Rattle.rf_syntax.specs.declared.name.Name.{Name}
 use Rattle.rf_names.specs.Bodies.{is_variable_of, variable_number, with_variable}
-use Rattle.rf_names.specs.LookUp.{is_blank, reads}
+use Rattle.rf_names.specs.Texts.{is_blank, reads}
 use Rattle.rf_names.proofs.VariableLemmas.{position_or_len-within, variable_number-below}
 
 position_or_len-map : {X Y : Type 0} (p : Y → Bool) (f : X → Y) (xs : List X) →
@@ -37,7 +37,7 @@ any-none p xs e = elim (cases_Bool (list_any p xs)) [
   | inr none ↦ none
 ]
 
-any-some : {X : Type 0} (p : X → Bool) (xs : List X) (n : ℕ) → position p xs ≡ Some n →
+pub any-some : {X : Type 0} (p : X → Bool) (xs : List X) (n : ℕ) → position p xs ≡ Some n →
     list_any p xs ≡ true
 any-some p [] n e = let never : ⊥ = cc in absurd never
 any-some p (x ∷ xs) n e =

@@ -1,4 +1,5 @@
 pub mod AssertionsFit
+pub mod AtomFacts
 pub mod BodyLemmas
 pub mod CallsFit
 pub mod ClassesFit
@@ -12,8 +13,8 @@ pub mod LiteralsFit
 pub mod Made
 pub mod NegationLemmas
 pub mod NumberFacts
-pub mod NumberingLemmas
 pub mod ObjectsFit
+pub mod ObjectsThere
 pub mod PairFacts
 pub mod PartsFit
 pub mod Passing
@@ -25,3 +26,4 @@ pub mod ScopesFit
 pub mod SenseLemmas
 pub mod SmallCounts
 pub mod SmallLemmas
+pub mod TermLemmas

@@ -1,7 +1,8 @@
 -- What a text that breaks no rule gives to those who make its problem.
-use Rattle.std.proofs.Common.{◌≡◌, ◌∙◌, ◌≤◌, ◌<◌, ◌^◌, ◌⊎◌, ◌++◌, All, List, map, length, Result, Ok, Err, IfOk, IfErr, Some, None, refl, sym, ap, subst, inl, inr, arith}
+use Rattle.std.proofs.Common.{◌≡◌, ◌∙◌, ◌≤◌, ◌<◌, ◌^◌, ◌++◌, All, List, map, length, Option, Result, Ok, Err, IfNone, IfOk, IfErr, Some, None, refl, sym, ap, subst, inl, inr, arith}
 use Rattle.std.proofs.lemmas.List.Elements.{All-weaker}
-use Rattle.rf_problem.specs.Valid.{concrete_numbers, new_object}
+use Rattle.rf_bounds.specs.declared.TheConstants.{MOST_CLASSES}
+use Rattle.rf_problem.specs.Valid.{new_numbers, new_object}
 use Rattle.rf_problem.specs.declared.class.Class.{Class}
 use Rattle.rf_problem.specs.declared.problem.Problem.{Problem}
 use Rattle.rf_problem.proofs.ProblemLemmas.{same_problem}
@@ -24,11 +25,11 @@ use Rattle.rf_resolve.proofs.ReadableParts.{readable_declared}
 use Rattle.rf_resolve.proofs.ReferencesFit.{references_fit}
 
 -- there are few classes
-classes_few : (d : Declared) → fault_of d ≡ None → length d.classes ≤ 256
-classes_few d sound = few-from_first_past (λ c. c.name) 256 d.classes ((passes d sound).limits Classes)
+classes_few : (d : Declared) → fault_of d ≡ None → length d.classes ≤ MOST_CLASSES
+classes_few d sound = few-from_first_past (λ c. c.name) MOST_CLASSES d.classes ((passes d sound).limits Classes)
 
 pub classes_made_few :
-    (d : Declared) → fault_of d ≡ None → (classes : List Class) → classes ≡ map (resolved_class d) d.classes → length classes ≤ 256
+    (d : Declared) → fault_of d ≡ None → (classes : List Class) → classes ≡ map (resolved_class d) d.classes → length classes ≤ MOST_CLASSES
 classes_made_few d sound classes made =
     let few = classes_few d sound in
     let many = class_count d in
@@ -48,12 +49,17 @@ sources_small ast d is readable sound =
     (λ r below. omega arith) d.references
     (All-unmap (λ r. r.source < length (map (resolved_class d) d.classes)) (resolved_reference d) d.references fit.sources)
 
+-- lists that are the parts of a problem aren't refused
+pub refused_never : (made : Option Problem) (Fit : Type 0) → made ≡ None → IfNone made (Fit → ⊥) → Fit → ⊥
+refused_never None Fit none refused fit = refused fit
+refused_never (Some p) Fit none refused fit = let never : ⊥ = cc in never
+
 -- the declarations stand for one problem at most
 pub one_problem : (d : Declared) (p q : Problem) → IsResolved d p → IsResolved d q → p ≡ q
 one_problem d p q a b =
     let classes : p.classes ≡ q.classes = a.classes ∙ sym b.classes in
     same_problem p q classes (a.references ∙ sym b.references) (a.predicates ∙ sym b.predicates)
-    (a.objects ∙ ap (λ cs. map (resolved_object d) (named_objects d) ++ map new_object (concrete_numbers 0 cs)) classes ∙ sym b.objects)
+    (a.objects ∙ ap (λ cs. map (resolved_object d) (named_objects d) ++ map new_object (new_numbers 0 cs)) classes ∙ sym b.objects)
     (a.assertions ∙ sym b.assertions) (a.scopes ∙ sym b.scopes)
 
 -- running out of memory answers for any tree

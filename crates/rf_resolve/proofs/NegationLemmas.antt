@@ -9,7 +9,7 @@ use Rattle.rf_problem.specs.Valid.{ranges_over}
 use Rattle.rf_problem.specs.declared.predicate.Literal.{Literal}
 use Rattle.rf_problem.specs.declared.predicate.Literal.TheVariants.{Call, Same, Differ}
 use Rattle.rf_names.specs.LookUp.{numbers_where}
-use Rattle.rf_resolve.specs.Resolved.{mentions, negates, negation_around, only_one}
+use Rattle.rf_resolve.specs.Resolved.{is_variable, mentions, negates, negation_around, only_one}
 use Rattle.rf_resolve.proofs.ClearOffsets.{cons_not_nil}
 
 -- each number is that of an item
@@ -58,7 +58,7 @@ is_negation (Same a b) = false
 is_negation (Differ a b) = false
 
 negates-parts : (v : ℕ) (l : Literal) → negates v l ≡ true → (is_negation l ≡ true) × (mentions v l ≡ true)
-negates-parts v (Call negated closure symbol args) h = and_parts negated (list_any (λ a. a == v) args) h
+negates-parts v (Call negated closure symbol args) h = and_parts negated (list_any (is_variable v) args) h
 negates-parts v (Same a b) h = absurd (true≢false (sym h))
 negates-parts v (Differ a b) h = absurd (true≢false (sym h))
 

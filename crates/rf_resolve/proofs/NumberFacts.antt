@@ -1,10 +1,11 @@
 -- The numbers that names stand for are there.
-use Rattle.std.proofs.Common.{◌≡◌, ℕ, suc, ◌+◌, ◌≤◌, ◌<◌, Bool, true, false, List, [], ◌∷◌, length, All, Option, Some, None, is_some, is_none, position, refl, sym, ap, inl, inr, arith, true≢false}
+use Rattle.std.proofs.Common.{◌≡◌, ℕ, suc, ◌+◌, ◌≤◌, ◌<◌, Bool, true, false, List, [], ◌∷◌, length, All, Option, Some, None, is_none, position, refl, sym, ap, inl, inr, arith, true≢false}
 use Rattle.std.specs.Prelude.{◌==◌, ◌&&◌}
 use Rattle.std.proofs.lemmas.Bool.{cases_Bool, eqb-true}
 use Rattle.std.proofs.lemmas.List.Elements.{All-cons, All-nil}
 use Rattle.std.proofs.lemmas.List.Quantifiers.{position-Some}
-use Rattle.rf_names.specs.LookUp.{class_named, extends_somehow, inherited_members, members_of_some, numbers_where, own_members, own_or_inherited, reads, references_named, the_number}
+use Rattle.rf_names.specs.LookUp.{class_named, extends_somehow, inherited_members, members_of_some, numbers_where, own_members, own_or_inherited, the_number}
+use Rattle.rf_names.specs.Texts.{reads}
 use Rattle.rf_names.specs.Declarations.{Declared}
 use Rattle.rf_name_rules.specs.RuleOffsets.{is_same_number}
 
@@ -12,10 +13,6 @@ use Rattle.rf_name_rules.specs.RuleOffsets.{is_same_number}
 pub some_number : (o : Option ℕ) → is_none o ≡ false → o ≡ Some (the_number o)
 some_number None e = absurd (true≢false e)
 some_number (Some n) e = refl
-
-pub some_from_is_some : (o : Option ℕ) → is_some o ≡ true → o ≡ Some (the_number o)
-some_from_is_some None e = absurd (true≢false (sym e))
-some_from_is_some (Some n) e = refl
 
 -- the position of an element lies in the list, and the element passes
 pub position_below : {X : Type 0} (p : X → Bool) (xs : List X) (i : ℕ) → position p xs ≡ Some i → i < length xs
@@ -61,7 +58,3 @@ members_below d None text = All-nil (λ k. k < length d.references)
 members_below d (Some c) text = own_or_inherited_below (length d.references) (own_members d c text) (inherited_members d c text)
     (numbers_where_below (λ r. (r.source == c) && reads text r.feature.name) d.references)
     (numbers_where_below (λ r. extends_somehow d c r.source && reads text r.feature.name) d.references)
-
-pub references_named_below : (d : Declared) (text : List ℕ) →
-    All (λ k. k < length d.references) (references_named d text)
-references_named_below d text = numbers_where_below (λ r. reads text r.feature.name) d.references

@@ -40,10 +40,6 @@ AllPairs-map R f (x ∷ xs) pairs = AllPairs-cons R (f x) (map f xs)
     (All-map (R (f x)) f xs (AllPairs-head (λ y z. R (f y) (f z)) x xs pairs))
     (AllPairs-map R f xs (AllPairs-tail (λ y z. R (f y) (f z)) x xs pairs))
 
-pub AllPairs-weaker :
-    {X : Type 0} (R S : X → X → Type 0) → ((x y : X) → R x y → S x y) → (xs : List X) → AllPairs R xs → AllPairs S xs
-AllPairs-weaker R S h xs pairs i j d before l = h (get_or xs i d) (get_or xs j d) (pairs i j d before l)
-
 pub AllPairs-unmap : {X Y : Type 0} (R : Y → Y → Type 0) (f : X → Y) (xs : List X) → AllPairs R (map f xs) →
     AllPairs (λ x y. R (f x) (f y)) xs
 AllPairs-unmap R f xs pairs i j d before l =

@@ -1,7 +1,7 @@
 -- What a text that breaks no rule of names stands for can be made a problem.
 use Rattle.std.proofs.Common.{◌≡◌, ◌∙◌, ◌++◌, List, map, refl, sym, ap, subst}
 use Rattle.rf_problem.specs.Made.{AreParts}
-use Rattle.rf_problem.specs.Valid.{concrete_numbers, new_object}
+use Rattle.rf_problem.specs.Valid.{new_numbers, new_object}
 use Rattle.rf_problem.specs.declared.assertion.Assertion.{Assertion}
 use Rattle.rf_problem.specs.declared.class.Class.{Class}
 use Rattle.rf_problem.specs.declared.object.ObjectDecl.{ObjectDecl}
@@ -17,6 +17,7 @@ use Rattle.rf_resolve.specs.Resolved.{resolved_assertion, resolved_class, resolv
 use Rattle.rf_resolve.proofs.AssertionsFit.{assertions_fit}
 use Rattle.rf_resolve.proofs.ClassesFit.{classes_fit}
 use Rattle.rf_resolve.proofs.ObjectsFit.{objects_fit}
+use Rattle.rf_resolve.proofs.ObjectsThere.{objects_made}
 use Rattle.rf_resolve.proofs.PredicatesFit.{predicates_fit}
 use Rattle.rf_resolve.proofs.ReadableParts.{readable_declared}
 use Rattle.rf_resolve.proofs.ReferencesFit.{references_fit}
@@ -29,15 +30,13 @@ module _ (ast : Ast) where
   -- the resolved lists are the parts of a problem
   pub resolved_parts_fit : Passes own → IsReadableDeclared own →
       AreParts (map (resolved_class own) own.classes) (map (resolved_reference own) own.references)
-      (map (resolved_predicate own) own.predicates)
-      (map (resolved_object own) (named_objects own)
-      ++ map new_object (concrete_numbers 0 (map (resolved_class own) own.classes)))
+      (map (resolved_predicate own) own.predicates) (objects_made own)
       (map (resolved_assertion own) own.assertions) (map (resolved_scope own) own.bounds)
   resolved_parts_fit passes readable = record {
     classes_fit = classes_fit ast passes readable;
     references_fit = references_fit own refl passes readable;
-    predicates_fit = predicates_fit ast own refl passes readable;
-    objects_fit = objects_fit own passes readable;
+    predicates_fit = predicates_fit ast passes readable;
+    objects_fit = objects_fit ast passes readable;
     assertions_fit = assertions_fit ast passes;
     scopes_fit = scopes_fit own passes readable;
   }
@@ -49,7 +48,7 @@ module _ (ast : Ast) where
       (references : List Relation) → references ≡ map (resolved_reference d) d.references →
       (predicates : List Predicate) → predicates ≡ map (resolved_predicate d) d.predicates →
       (objects : List ObjectDecl) →
-      objects ≡ map (resolved_object d) (named_objects d) ++ map new_object (concrete_numbers 0 classes) →
+      objects ≡ map (resolved_object d) (named_objects d) ++ map new_object (new_numbers 0 classes) →
       (assertions : List Assertion) → assertions ≡ map (resolved_assertion d) d.assertions →
       (scopes : List Scope) → scopes ≡ map (resolved_scope d) d.bounds →
       AreParts classes references predicates objects assertions scopes
@@ -59,10 +58,9 @@ module _ (ast : Ast) where
       er ∙ ap (λ x. map (resolved_reference x) x.references) is in
       let ps : predicates ≡ map (resolved_predicate own) own.predicates =
       ep ∙ ap (λ x. map (resolved_predicate x) x.predicates) is in
-      let os : objects ≡ map (resolved_object own) (named_objects own)
-      ++ map new_object (concrete_numbers 0 (map (resolved_class own) own.classes)) =
-      eo ∙ ap (λ x. map (resolved_object x) (named_objects x) ++ map new_object (concrete_numbers 0 classes)) is
-      ∙ ap (λ ks. map (resolved_object own) (named_objects own) ++ map new_object (concrete_numbers 0 ks)) cs in
+      let os : objects ≡ objects_made own =
+      eo ∙ ap (λ x. map (resolved_object x) (named_objects x) ++ map new_object (new_numbers 0 classes)) is
+      ∙ ap (λ ks. map (resolved_object own) (named_objects own) ++ map new_object (new_numbers 0 ks)) cs in
       let xs : assertions ≡ map (resolved_assertion own) own.assertions =
       ex ∙ ap (λ x. map (resolved_assertion x) x.assertions) is in
       let ss : scopes ≡ map (resolved_scope own) own.bounds = es ∙ ap (λ x. map (resolved_scope x) x.bounds) is in

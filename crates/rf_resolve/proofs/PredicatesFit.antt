@@ -3,18 +3,20 @@ use Rattle.std.proofs.Common.{◌≡◌, ℕ, zero, suc, ◌≤◌, ◌<◌, Lis
 use Rattle.std.specs.List.{flat_map}
 use Rattle.std.proofs.lemmas.List.{length-map}
 use Rattle.std.proofs.lemmas.List.Elements.{All-append, All-head, All-map, All-nil, All-tail}
+use Rattle.rf_bounds.specs.declared.TheConstants.{MOST_CLAUSES, MOST_LITERALS, MOST_PARAMETERS, MOST_PREDICATES, MOST_VARIABLES}
 use Rattle.rf_problem.specs.Valid.{ArePredicates, FitsClause}
+use Rattle.rf_problem.specs.declared.object.ObjectDecl.{ObjectDecl}
 use Rattle.rf_problem.specs.declared.predicate.Predicate.{Predicate}
 use Rattle.rf_syntax.specs.declared.predicate.BodyLiteral.{BodyLiteral}
 use Rattle.rf_syntax.specs.declared.statement.Ast.{Ast}
 use Rattle.rf_syntax.specs.declared.statement.Statement.{Statement}
-use Rattle.rf_syntax.specs.declared.statement.Statement.TheVariants.{Class, Predicate as PredicateStatement, Declare, Multi, Scope, Assert}
+use Rattle.rf_syntax.specs.declared.statement.Statement.TheVariants.{Assert, Atoms, Class, Declare, Enum, Multi, Predicate as PredicateStatement, Scope}
 use Rattle.rf_text.specs.Written.{CanBeQuoted}
 use Rattle.rf_names.specs.Bodies.{clause_variables, first_name}
 use Rattle.rf_names.specs.Declarations.{Declared, PredicateDecl, declared_in, items_of, predicates_in}
 use Rattle.rf_resolve.specs.Passes.{Passes}
 use Rattle.rf_limits.specs.Limits.{clause_name, first_past}
-use Rattle.rf_name_rules.specs.RuleOffsets.{ambiguous_literal, literal_arity, unknown_assertion, unknown_bound, unknown_class, unknown_literal, unknown_param_class, unknown_offsets, unknown_reference}
+use Rattle.rf_name_rules.specs.RuleOffsets.{ambiguous_literal, literal_arity, unknown_assertion, unknown_bound, unknown_literal, unknown_offsets, unknown_param_class, unknown_reference, unknown_super}
 use Rattle.rf_names.specs.Offsets.{offsets_in_literals}
 use Rattle.rf_resolve.specs.Readable.{IsReadableDeclared}
 use Rattle.rf_resolve.specs.Resolved.{resolved_class, resolved_clause, resolved_predicate, resolved_reference}
@@ -22,6 +24,7 @@ use Rattle.rf_limits.specs.declared.kind.LimitKind.TheVariants.{Predicates, Para
 use Rattle.rf_resolve.proofs.CallsFit.{calls-no_cycle, predicates_made}
 use Rattle.rf_resolve.proofs.ClauseFit.{FitsClause-from_sound, IsSoundClause}
 use Rattle.rf_resolve.proofs.ClearOffsets.{few-from_first_past, nil-each, nil-left, nil-right, offsets_in_clauses-each, offsets_in_literals-each}
+use Rattle.rf_resolve.proofs.ObjectsThere.{AreAtomsThere, atoms_there, objects_made}
 
 -- each clause has literals
 abbrev pub HasLiterals : PredicateDecl → Type 0
@@ -36,8 +39,10 @@ HasLiterals-statement (PredicateStatement start name params clauses) = λ k d l.
     at zero d l =
         All-map (λ (c : List BodyLiteral). 1 ≤ length c) (items_of {T = BodyLiteral}) (items_of clauses) (λ j c m. omega arith)
     at (suc k) d l = absurd (omega arith)
+HasLiterals-statement (Enum name literals) = All-nil HasLiterals
 HasLiterals-statement (Declare names) = All-nil HasLiterals
 HasLiterals-statement (Multi items) = All-nil HasLiterals
+HasLiterals-statement (Atoms names) = All-nil HasLiterals
 HasLiterals-statement (Scope bounds) = All-nil HasLiterals
 HasLiterals-statement (Assert is_default assertion) = All-nil HasLiterals
 
@@ -69,7 +74,7 @@ nil-middle xa xb xc e = nil-right xa xb (nil-left (xa ++ xb) xc e)
 module _ (d : Declared) where
   -- the offsets of unknown names, by where they stand
   abbrev in_supers : List ℕ
-  in_supers = flat_map (λ c. flat_map (unknown_class d) c.supers) d.classes
+  in_supers = flat_map (λ c. flat_map (unknown_super d) c.supers) d.classes
 
   abbrev in_references : List ℕ
   in_references = flat_map (unknown_reference d) d.references
@@ -113,56 +118,58 @@ module _ (d : Declared) (passes : Passes d) where
         nil-each (λ param. unknown_param_class d param.class) (get_or d.predicates k e).params
         (nil-each (λ p. flat_map (λ param. unknown_param_class d param.class) p.params) d.predicates (params-known d passes.unknown) k e l);
     few_literals =
-        few-from_first_past first_name 32 (get_or (get_or d.predicates k e).clauses j c)
-        (offsets_in_clauses-each (λ n params clause. first_past 32 first_name clause) d.predicates (passes.limits Literals) k e l j c m);
+        few-from_first_past first_name MOST_LITERALS (get_or (get_or d.predicates k e).clauses j c)
+        (offsets_in_clauses-each (λ n params clause. first_past MOST_LITERALS first_name clause) d.predicates (passes.limits Literals) k e l j c m);
     few_variables =
-        few-from_first_past (λ name. name) 8 (clause_variables (get_or d.predicates k e).params (get_or (get_or d.predicates k e).clauses j c))
-        (offsets_in_clauses-each (λ n params clause. first_past 8 (λ name. name) (clause_variables params clause)) d.predicates
+        few-from_first_past (λ name. name) MOST_VARIABLES (clause_variables d (get_or d.predicates k e).params (get_or (get_or d.predicates k e).clauses j c))
+        (offsets_in_clauses-each (λ n params clause. first_past MOST_VARIABLES (λ name. name) (clause_variables d params clause)) d.predicates
         (passes.limits Variables) k e l j c m);
   }
 
   -- the predicates fit, where each clause has literals
   pub predicates_fit-with_literals :
-      IsReadableDeclared d → All HasLiterals d.predicates →
-      ArePredicates (map (resolved_class d) d.classes) (map (resolved_reference d) d.references) (map (resolved_predicate d) d.predicates)
-  predicates_fit-with_literals readable full =
+      IsReadableDeclared d → All HasLiterals d.predicates → (objects : List ObjectDecl) → AreAtomsThere d objects →
+      ArePredicates (map (resolved_class d) d.classes) (map (resolved_reference d) d.references) objects (map (resolved_predicate d) d.predicates)
+  predicates_fit-with_literals readable full objects atoms =
       let count = length-map d.predicates (resolved_predicate d) in
-      let few = few-from_first_past (λ p. p.name) 256 d.predicates (passes.limits Predicates) in
+      let few = few-from_first_past (λ p. p.name) MOST_PREDICATES d.predicates (passes.limits Predicates) in
       record {
         few = omega arith;
         named = All-map (λ (p : Predicate). CanBeQuoted p.name) (resolved_predicate d) d.predicates readable.predicates;
-        arities = All-map (λ (p : Predicate). p.arity ≤ 4) (resolved_predicate d) d.predicates
-            (λ k e l. few-from_first_past (λ param. param.name) 4 (get_or d.predicates k e).params
-            (nil-each (λ p. first_past 4 (λ param. param.name) p.params) d.predicates (passes.limits Parameters) k e l));
-        few_clauses = All-map (λ (p : Predicate). length p.clauses ≤ 64) (resolved_predicate d) d.predicates
+        arities = All-map (λ (p : Predicate). p.arity ≤ MOST_PARAMETERS) (resolved_predicate d) d.predicates
+            (λ k e l. few-from_first_past (λ param. param.name) MOST_PARAMETERS (get_or d.predicates k e).params
+            (nil-each (λ p. first_past MOST_PARAMETERS (λ param. param.name) p.params) d.predicates (passes.limits Parameters) k e l));
+        few_clauses = All-map (λ (p : Predicate). length p.clauses ≤ MOST_CLAUSES) (resolved_predicate d) d.predicates
             (λ k e l.
-            let written = few-from_first_past (λ name. name) 64 (flat_map clause_name (get_or d.predicates k e).clauses)
-            (nil-each (λ p. first_past 64 (λ name. name) (flat_map clause_name p.clauses)) d.predicates (passes.limits Clauses) k e l) in
+            let written = few-from_first_past (λ name. name) MOST_CLAUSES (flat_map clause_name (get_or d.predicates k e).clauses)
+            (nil-each (λ p. first_past MOST_CLAUSES (λ name. name) (flat_map clause_name p.clauses)) d.predicates (passes.limits Clauses) k e l) in
             let named = length-clause_names (get_or d.predicates k e).clauses (full k e l) in
             let made = length-map (get_or d.predicates k e).clauses (resolved_clause d (get_or d.predicates k e).params) in
             omega arith);
         clauses = subst
-            (λ c. All (λ p. All (FitsClause c (length (map (resolved_reference d) d.references)) (predicates_made d) p.arity) p.clauses) (predicates_made d))
+            (λ c. All (λ p. All (FitsClause c (length (map (resolved_reference d) d.references)) objects (predicates_made d) p.arity) p.clauses) (predicates_made d))
             (sym (length-map d.classes (resolved_class d)))
-            (subst (λ r. All (λ p. All (FitsClause (length d.classes) r (predicates_made d) p.arity) p.clauses) (predicates_made d))
+            (subst (λ r. All (λ p. All (FitsClause (length d.classes) r objects (predicates_made d) p.arity) p.clauses) (predicates_made d))
             (sym (length-map d.references (resolved_reference d))) clauses-fit);
         no_cycle = calls-no_cycle d passes.recursive;
       }
     where
-      clauses-fit : All (λ (p : Predicate). All (FitsClause (length d.classes) (length d.references) (predicates_made d) p.arity) p.clauses) (predicates_made d)
+      clauses-fit : All (λ (p : Predicate). All (FitsClause (length d.classes) (length d.references) objects (predicates_made d) p.arity) p.clauses) (predicates_made d)
       clauses-fit =
-          All-map (λ (p : Predicate). All (FitsClause (length d.classes) (length d.references) (predicates_made d) p.arity) p.clauses)
+          All-map (λ (p : Predicate). All (FitsClause (length d.classes) (length d.references) objects (predicates_made d) p.arity) p.clauses)
           (resolved_predicate d) d.predicates
           (λ k e l. All-map
-          (FitsClause (length d.classes) (length d.references) (predicates_made d) (length (get_or d.predicates k e).params))
+          (FitsClause (length d.classes) (length d.references) objects (predicates_made d) (length (get_or d.predicates k e).params))
           (resolved_clause d (get_or d.predicates k e).params) (get_or d.predicates k e).clauses
-          (λ j c m. FitsClause-from_sound d (get_or d.predicates k e).params (get_or (get_or d.predicates k e).clauses j c)
+          (λ j c m. FitsClause-from_sound d objects atoms (get_or d.predicates k e).params (get_or (get_or d.predicates k e).clauses j c)
           (clauses-sound k e l j c m)))
 
 -- the predicates that a text stands for fit, where it breaks no rule
 pub predicates_fit :
-    (ast : Ast) (d : Declared) → d ≡ declared_in ast → Passes d → IsReadableDeclared d →
-    ArePredicates (map (resolved_class d) d.classes) (map (resolved_reference d) d.references) (map (resolved_predicate d) d.predicates)
-predicates_fit ast d is passes readable =
-    predicates_fit-with_literals d passes readable
-    (subst (λ ps. All HasLiterals ps) (sym (ap (λ x. x.predicates) is)) (HasLiterals-statements ast.statements))
+    (ast : Ast) → Passes (declared_in ast) → IsReadableDeclared (declared_in ast) →
+    ArePredicates (map (resolved_class (declared_in ast)) (declared_in ast).classes)
+    (map (resolved_reference (declared_in ast)) (declared_in ast).references) (objects_made (declared_in ast))
+    (map (resolved_predicate (declared_in ast)) (declared_in ast).predicates)
+predicates_fit ast passes readable =
+    predicates_fit-with_literals (declared_in ast) passes readable (HasLiterals-statements ast.statements) (objects_made (declared_in ast))
+    (atoms_there ast)

@@ -4,6 +4,7 @@ use Rattle.std.specs.Option.{ForSome}
 use Rattle.std.proofs.lemmas.Bool.{and_parts}
 use Rattle.std.proofs.lemmas.List.{get_or-map, length-map}
 use Rattle.std.proofs.lemmas.List.Elements.{All-append, All-head, All-map, All-nil, All-tail, All-weaker}
+use Rattle.rf_bounds.specs.declared.TheConstants.{MOST_REFERENCES}
 use Rattle.rf_problem.specs.Parts.{no_reference, reference_at}
 use Rattle.rf_problem.specs.Valid.{AreMirrored, AreReferences, IsSmall}
 use Rattle.rf_problem.specs.declared.reference.Reference.{Reference as Relation}
@@ -136,7 +137,7 @@ references_fit d own passes readable =
     let long = reference_count d in
     let many = class_count d in
     record {
-      few = (let most = few-from_first_past (λ r. r.feature.name) 512 d.references (passes.limits References) in omega arith);
+      few = (let most = few-from_first_past (λ r. r.feature.name) MOST_REFERENCES d.references (passes.limits References) in omega arith);
       named = All-map (λ (r : Relation). CanBeQuoted r.name) (resolved_reference d) d.references readable.references;
       apart = AllPairs-map (λ (r s : Relation). r.source ≡ s.source → r.name ≢ s.name) (resolved_reference d) d.references
           (subst (AllPairs AreNamedApart) (sym own) (declared_apart 0 d.classes (λ k c l.

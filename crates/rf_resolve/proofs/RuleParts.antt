@@ -1,17 +1,18 @@
 -- What the rules of names say of each part.
-use Rattle.std.proofs.Common.{◌≡◌, ℕ, false, List, [], ◌++◌, get_or, All, is_none}
+use Rattle.std.proofs.Common.{◌≡◌, ℕ, true, false, not, List, [], ◌++◌, get_or, All, Option, None, Some, is_none, refl, sym, true≢false}
+use Rattle.std.proofs.lemmas.Bool.{not-false}
 use Rattle.std.specs.List.{flat_map}
 use Rattle.rf_syntax.specs.declared.name.Name.{Name}
 use Rattle.rf_names.specs.Declarations.{Declared}
-use Rattle.rf_names.specs.LookUp.{assertion_symbols, class_named, sense_of}
-use Rattle.rf_name_rules.specs.RuleOffsets.{ambiguous_literal, ambiguous_opposite, ambiguous_offsets, ambiguous_symbol, feature_names, reserved_members, reserved_names, params_apart, repeated, twice_offsets, unknown_assertion, unknown_bound, unknown_class, unknown_literal, unknown_param_class, unknown_offsets, unknown_reference}
+use Rattle.rf_names.specs.LookUp.{assertion_symbols, class_decl_at, class_named, sense_of, the_number}
+use Rattle.rf_name_rules.specs.RuleOffsets.{ambiguous_literal, ambiguous_opposite, ambiguous_offsets, ambiguous_symbol, can_be_extended, feature_names, reserved_members, reserved_names, params_apart, repeated, twice_offsets, unknown_assertion, unknown_bound, unknown_class, unknown_literal, unknown_param_class, unknown_offsets, unknown_reference, unknown_super}
 use Rattle.rf_names.specs.Offsets.{offsets_in_literals}
 use Rattle.rf_resolve.proofs.ClearOffsets.{nil-parts, nil-each, offset_if-nil}
 
 module _ (d : Declared) where
   -- no name is unknown
   pub record AreKnown : Type 0 where
-    pub supers : flat_map (λ c. flat_map (unknown_class d) c.supers) d.classes ≡ []
+    pub supers : flat_map (λ c. flat_map (unknown_super d) c.supers) d.classes ≡ []
     pub references : flat_map (unknown_reference d) d.references ≡ []
     pub params : flat_map (λ p. flat_map (λ param. unknown_param_class d param.class) p.params) d.predicates ≡ []
     pub bounds : flat_map (λ b. unknown_bound d b.name) d.bounds ≡ []
@@ -20,7 +21,7 @@ module _ (d : Declared) where
 
   pub known : unknown_offsets d ≡ [] → AreKnown
   known e =
-      let in_supers : List ℕ = flat_map (λ c. flat_map (unknown_class d) c.supers) d.classes in
+      let in_supers : List ℕ = flat_map (λ c. flat_map (unknown_super d) c.supers) d.classes in
       let in_references : List ℕ = flat_map (unknown_reference d) d.references in
       let in_params : List ℕ = flat_map (λ p. flat_map (λ param. unknown_param_class d param.class) p.params) d.predicates in
       let in_bounds : List ℕ = flat_map (λ b. unknown_bound d b.name) d.bounds in
@@ -73,9 +74,31 @@ module _ (d : Declared) where
   pub known_class : (n : Name) → unknown_class d n ≡ [] → is_none (class_named d n.text) ≡ false
   known_class n e = offset_if-nil (is_none (class_named d n.text)) n.at e
 
+  -- a name that may stand after `extends` is that of a class that isn't an enum
+  extended-there : (o : Option ℕ) → can_be_extended d o ≡ true → is_none o ≡ false
+  extended-there None e = absurd (true≢false (sym e))
+  extended-there (Some c) e = refl
+
+  extended-plain : (o : Option ℕ) → can_be_extended d o ≡ true → not (class_decl_at d (the_number o)).is_enum ≡ true
+  extended-plain None e = absurd (true≢false (sym e))
+  extended-plain (Some c) e = e
+
+  extended_supers :
+      unknown_offsets d ≡ [] → All (λ c. All (λ s. can_be_extended d (class_named d s.text) ≡ true) c.supers) d.classes
+  extended_supers e k c l j s m =
+      let name : Name = get_or (get_or d.classes k c).supers j s in
+      not-false (can_be_extended d (class_named d name.text))
+      (offset_if-nil (not (can_be_extended d (class_named d name.text))) name.at
+      (nil-each (unknown_super d) (get_or d.classes k c).supers
+      (nil-each (λ c. flat_map (unknown_super d) c.supers) d.classes (known e).supers k c l) j s m))
+
   pub known_supers :
       unknown_offsets d ≡ [] → All (λ c. All (λ s. is_none (class_named d s.text) ≡ false) c.supers) d.classes
   known_supers e k c l j s m =
-      known_class (get_or (get_or d.classes k c).supers j s)
-      (nil-each (unknown_class d) (get_or d.classes k c).supers
-      (nil-each (λ c. flat_map (unknown_class d) c.supers) d.classes (known e).supers k c l) j s m)
+      extended-there (class_named d (get_or (get_or d.classes k c).supers j s).text) (extended_supers e k c l j s m)
+
+  pub plain_supers :
+      unknown_offsets d ≡ [] →
+      All (λ c. All (λ s. not (class_decl_at d (the_number (class_named d s.text))).is_enum ≡ true) c.supers) d.classes
+  plain_supers e k c l j s m =
+      extended-plain (class_named d (get_or (get_or d.classes k c).supers j s).text) (extended_supers e k c l j s m)

@@ -3,6 +3,7 @@ use Rattle.std.proofs.Common.{◌<◌, map, length, get_or, arith}
 use Rattle.std.specs.Option.{ForSome}
 use Rattle.std.proofs.lemmas.List.{length-map}
 use Rattle.std.proofs.lemmas.List.Elements.{All-map}
+use Rattle.rf_bounds.specs.declared.TheConstants.{MOST_SCOPES}
 use Rattle.rf_problem.specs.Valid.{AreScopes, IsSmall}
 use Rattle.rf_limits.specs.declared.kind.LimitKind.TheVariants.{Scopes}
 use Rattle.rf_names.specs.Declarations.{Declared}
@@ -19,7 +20,7 @@ pub scopes_fit : (d : Declared) → Passes d → IsReadableDeclared d →
 scopes_fit d passes readable = record {
   few =
       let long = length-map d.bounds (resolved_scope d) in
-      let most = few-from_first_past (λ b. b.name) 256 d.bounds (passes.limits Scopes) in omega arith;
+      let most = few-from_first_past (λ b. b.name) MOST_SCOPES d.bounds (passes.limits Scopes) in omega arith;
   classes_there = All-map (λ s. ForSome s.class (λ c. c < length (map (resolved_class d) d.classes))) (resolved_scope d) d.bounds
       (λ k b l c is. let long = class_count d in let below = position_below _ d.classes c is in omega arith);
   ranges = All-map (λ s. IsSmall s.range) (resolved_scope d) d.bounds (λ k b l. IsSmall-range (get_or d.bounds k b).range (readable.bounds k b l));

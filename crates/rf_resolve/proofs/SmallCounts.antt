@@ -1,6 +1,7 @@
 -- Counts of small ranges.
 use Rattle.std.proofs.Common.{◌≡◌, ℕ, ◌≤◌, Option, Some, None, refl, arith}
 use Rattle.std.specs.Option.{ForSome}
+use Rattle.rf_bounds.specs.declared.TheConstants.{GREATEST_NUMBER}
 use Rattle.rf_problem.specs.Valid.{IsSmall}
 use Rattle.rf_syntax.specs.declared.class.MultPlace.{MultPlace}
 use Rattle.rf_syntax.specs.declared.class.MultPlace.TheVariants.{Absent as NoMult, AfterType, AfterName}
@@ -13,10 +14,10 @@ pub IsSmall-range : (r : Range) → IsSmallRange r → IsSmall (count_of_range r
 IsSmall-range r small = record { lower = small.lower; upper = small.upper }
 
 -- any number, and a range of one number or none
-any_small : (n : ℕ) → ◌≡◌ {A = Option ℕ} None (Some n) → n ≤ 1000000
+any_small : (n : ℕ) → ◌≡◌ {A = Option ℕ} None (Some n) → n ≤ GREATEST_NUMBER
 any_small n e = let never : ⊥ = cc in absurd never
 
-one_small : (n : ℕ) → ◌≡◌ {A = Option ℕ} (Some 1) (Some n) → n ≤ 1000000
+one_small : (n : ℕ) → ◌≡◌ {A = Option ℕ} (Some 1) (Some n) → n ≤ GREATEST_NUMBER
 one_small n e = let same : 1 ≡ n = cc in omega arith
 
 pub IsSmall-range_or_any : (r : Option Range) → ForSome r IsSmallRange → IsSmall (count_or_any r)

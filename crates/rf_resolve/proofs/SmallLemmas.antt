@@ -1,10 +1,11 @@
 -- Predicates that pass no limit have few parameters, literals and variables.
-use Rattle.std.proofs.Common.{◌≡◌, ◌≤◌, List, [], length, get_or, All, arith}
+use Rattle.std.proofs.Common.{◌≡◌, ◌+◌, ◌≤◌, List, [], length, get_or, All, arith}
 use Rattle.std.proofs.lemmas.List.{length-append}
+use Rattle.rf_bounds.specs.declared.TheConstants.{MOST_LITERALS, MOST_PARAMETERS, MOST_VARIABLES}
 use Rattle.rf_syntax.specs.declared.predicate.BodyLiteral.{BodyLiteral}
 use Rattle.rf_syntax.specs.declared.predicate.Param.{Param}
-use Rattle.rf_names.specs.Bodies.{clause_variables, first_name, param_names}
-use Rattle.rf_names.specs.Declarations.{Declared, PredicateDecl}
+use Rattle.rf_names.specs.Bodies.{clause_variables, first_name}
+use Rattle.rf_names.specs.Declarations.{Declared, param_names, PredicateDecl}
 use Rattle.rf_limits.specs.Limits.{first_past, limit_offsets}
 use Rattle.rf_resolve.specs.Resolved.{all_literals, class_literals, resolved_literals}
 use Rattle.rf_resolve.specs.Small.{IsSmallClause, IsSmallPredicate}
@@ -14,37 +15,37 @@ use Rattle.rf_resolve.proofs.ClearOffsets.{few-from_first_past, nil-each, offset
 use Rattle.rf_resolve.proofs.LiteralsFit.{length-class_literals, length-resolved_literals}
 
 module _ (d : Declared) (limits : (k : LimitKind) → limit_offsets d k ≡ []) where
-  few_params : All (λ p. first_past 4 (λ param. param.name) p.params ≡ []) d.predicates
-  few_params = nil-each (λ (p : PredicateDecl). first_past 4 (λ param. param.name) p.params)
+  few_params : All (λ p. first_past MOST_PARAMETERS (λ param. param.name) p.params ≡ []) d.predicates
+  few_params = nil-each (λ (p : PredicateDecl). first_past MOST_PARAMETERS (λ param. param.name) p.params)
       d.predicates (limits Parameters)
 
-  pub small_predicates : All IsSmallPredicate d.predicates
+  pub small_predicates : All (IsSmallPredicate d) d.predicates
   small_predicates k e l =
       let p : PredicateDecl = get_or d.predicates k e in
-      let params = few-from_first_past (λ param. param.name) 4 p.params (few_params k e l) in
+      let params = few-from_first_past (λ param. param.name) MOST_PARAMETERS p.params (few_params k e l) in
       record {
         arity = params;
         clauses = λ j c m. record {
           arity = params;
-          literals = few-from_first_past first_name 32 (get_or p.clauses j c)
-              (offsets_in_clauses-each (λ n params clause. first_past 32 first_name clause) d.predicates
+          literals = few-from_first_past first_name MOST_LITERALS (get_or p.clauses j c)
+              (offsets_in_clauses-each (λ n params clause. first_past MOST_LITERALS first_name clause) d.predicates
               (limits Literals) k e l j c m);
-          variables = few-from_first_past (λ name. name) 8
-              (clause_variables p.params (get_or p.clauses j c))
-              (offsets_in_clauses-each (λ n params clause. first_past 8 (λ name. name)
-              (clause_variables params clause)) d.predicates (limits Variables) k e l j c m);
+          variables = few-from_first_past (λ name. name) MOST_VARIABLES
+              (clause_variables d p.params (get_or p.clauses j c))
+              (offsets_in_clauses-each (λ n params clause. first_past MOST_VARIABLES (λ name. name)
+              (clause_variables d params clause)) d.predicates (limits Variables) k e l j c m);
         };
       }
 
 -- the literals of a small clause
 pub few_literals :
-    (d : Declared) (params : List Param) (clause : List BodyLiteral) → IsSmallClause params clause
-    → length (all_literals d params clause) ≤ 36
+    (d : Declared) (params : List Param) (clause : List BodyLiteral) → IsSmallClause d params clause
+    → length (all_literals d params clause) ≤ MOST_LITERALS + MOST_PARAMETERS
 few_literals d params clause small =
-    let arity : length params ≤ 4 = small.arity in
-    let count : length clause ≤ 32 = small.literals in
-    let written = length-resolved_literals d (param_names params) clause in
+    let arity : length params ≤ MOST_PARAMETERS = small.arity in
+    let count : length clause ≤ MOST_LITERALS = small.literals in
+    let written = length-resolved_literals d params (param_names params) clause in
     let typed = length-class_literals d 0 params in
-    let all = length-append (resolved_literals d (param_names params) clause)
+    let all = length-append (resolved_literals d params (param_names params) clause)
     (class_literals d 0 params) in
     omega arith

@@ -3,7 +3,7 @@ use Rattle.std.specs.Prelude.{◌≤◌, All}
 use Rattle.std.specs.Option.{ForSome}
 use Rattle.rf_lexer.specs.declared.token.Kind.{Kind}
 use Rattle.rf_lexer.specs.declared.token.Kind.TheVariants.{Word, Name, Quoted, Number, Mark}
-use Rattle.rf_problem.specs.Valid.{greatest_number}
+use Rattle.rf_bounds.specs.declared.TheConstants.{GREATEST_NUMBER}
 use Rattle.rf_text.specs.Written.{CanBeQuoted}
 use Rattle.rf_syntax.specs.declared.statement.Ast.{Ast}
 use Rattle.rf_syntax.specs.Statement.{spelling_of}
@@ -19,7 +19,7 @@ abbrev pub IsReadable : Kind → Type 0
 IsReadable (Word word) = Unit {0}
 IsReadable (Name name) = CanBeQuoted name
 IsReadable (Quoted name) = CanBeQuoted name
-IsReadable (Number number) = number ≤ greatest_number
+IsReadable (Number number) = number ≤ GREATEST_NUMBER
 IsReadable (Mark mark) = Unit {0}
 
 -- each token in the spelling of the tree is so
@@ -28,8 +28,8 @@ IsReadableTree ast = All IsReadable (spelling_of ast)
 
 -- the numbers of a range are at most that
 pub record IsSmallRange (r : Range) : Type 0 where
-  pub lower : r.lo ≤ greatest_number
-  pub upper : ForSome (upper_end r.lo r.hi) (λ n. n ≤ greatest_number)
+  pub lower : r.lo ≤ GREATEST_NUMBER
+  pub upper : ForSome (upper_end r.lo r.hi) (λ n. n ≤ GREATEST_NUMBER)
 
 -- so are those of a multiplicity
 abbrev pub IsSmallMult : MultPlace → Type 0

@@ -4,15 +4,15 @@ use Rattle.rf_bounds.specs.declared.TheConstants.{MOST_LITERALS, MOST_PARAMETERS
 use Rattle.rf_syntax.specs.declared.predicate.BodyLiteral.{BodyLiteral}
 use Rattle.rf_syntax.specs.declared.predicate.Param.{Param}
 use Rattle.rf_names.specs.Bodies.{clause_variables}
-use Rattle.rf_names.specs.Declarations.{PredicateDecl}
+use Rattle.rf_names.specs.Declarations.{Declared, PredicateDecl}
 
 -- a clause has few parameters, literals and variables
-pub record IsSmallClause (params : List Param) (clause : List BodyLiteral) : Type 0 where
+pub record IsSmallClause (d : Declared) (params : List Param) (clause : List BodyLiteral) : Type 0 where
   pub arity : length params ≤ MOST_PARAMETERS
   pub literals : length clause ≤ MOST_LITERALS
-  pub variables : length (clause_variables params clause) ≤ MOST_VARIABLES
+  pub variables : length (clause_variables d params clause) ≤ MOST_VARIABLES
 
 -- so has each clause of a predicate
-pub record IsSmallPredicate (p : PredicateDecl) : Type 0 where
+pub record IsSmallPredicate (d : Declared) (p : PredicateDecl) : Type 0 where
   pub arity : length p.params ≤ MOST_PARAMETERS
-  pub clauses : All (IsSmallClause p.params) p.clauses
+  pub clauses : All (IsSmallClause d p.params) p.clauses

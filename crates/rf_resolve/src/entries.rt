@@ -1,17 +1,27 @@
 //! Where the variables of a clause are quantified.
 
-ghost use Rattle.std.specs.Prelude.{◌≡◌, ◌==◌, ◌≤◌, IfOk, length, count_by, map, position};
+ghost use Rattle.std.specs.Prelude.{◌≡◌, ◌+◌, ◌≤◌, IfOk, length, count_by, map, position};
 ghost use Rattle.std.specs.List.{list_any, range_with_len};
+ghost use Rattle.rf_bounds.specs.declared.TheConstants.{MOST_LITERALS, MOST_PARAMETERS};
 ghost use Rattle.rf_names.specs.LookUp.{numbers_where};
-ghost use Rattle.rf_resolve.specs.Resolved.{entry_of, mentions, negates, negation_around, only_one};
+ghost use Rattle.rf_resolve.specs.Resolved.{entry_of, is_variable, mentions, negates, negation_around, only_one};
 
-use rf_problem::Literal;
+use rf_problem::{Literal, Term};
 use std::alloc::{AllocError, Global};
 
-fn is_among(args: &[u8], variable: u8) -> bool
-    ensures { result ≡ list_any (λ a. a == variable) args.now }
+fn is_variable(term: Term, variable: u8) -> bool
+    ensures { result ≡ is_variable variable term }
 {
-    args.contains(&variable)
+    match term {
+        Term::Var(number) => number == variable,
+        Term::Atom(_) => false,
+    }
+}
+
+fn is_among(args: &[Term], variable: u8) -> bool
+    ensures { result ≡ list_any (is_variable variable) args.now }
+{
+    args.iter().any(|term| is_variable(*term, variable))
 }
 
 fn mentions(literal: &Literal, variable: u8) -> bool
@@ -19,7 +29,9 @@ fn mentions(literal: &Literal, variable: u8) -> bool
 {
     match literal {
         Literal::Call { args, .. } => is_among(args.as_slice(), variable),
-        Literal::Same(a, b) | Literal::Differ(a, b) => *a == variable || *b == variable,
+        Literal::Same(a, b) | Literal::Differ(a, b) => {
+            is_variable(*a, variable) || is_variable(*b, variable)
+        }
     }
 }
 
@@ -60,7 +72,7 @@ fn is_negated(literals: &[Literal], variable: u8) -> bool
 // The one literal that names a variable, where there is one alone.
 #[tactic(auto, using(crate::proofs::EntryLemmas::only_one_cases))]
 fn only_mention(literals: &[Literal], variable: u8) -> Option<u8>
-    requires { length literals.now ≤ 36 }
+    requires { length literals.now ≤ MOST_LITERALS + MOST_PARAMETERS }
     ensures { result ≡ only_one (numbers_where 0 (mentions variable) literals.now) }
 {
     if mentions_count(literals, variable) != 1 {
@@ -74,7 +86,7 @@ fn only_mention(literals: &[Literal], variable: u8) -> Option<u8>
 
 // The literal inside whose negation a variable ranges.
 fn negation_around(literals: &[Literal], variable: u8) -> Option<u8>
-    requires { length literals.now ≤ 36 }
+    requires { length literals.now ≤ MOST_LITERALS + MOST_PARAMETERS }
     ensures { result ≡ negation_around literals.now variable }
 {
     if is_negated(literals, variable) {
@@ -85,7 +97,7 @@ fn negation_around(literals: &[Literal], variable: u8) -> Option<u8>
 }
 
 fn entry_of(arity: u64, literals: &[Literal], variable: u8) -> Option<u8>
-    requires { length literals.now ≤ 36 }
+    requires { length literals.now ≤ MOST_LITERALS + MOST_PARAMETERS }
     ensures { result ≡ entry_of arity literals.now variable }
 {
     if (variable as u64) < arity {
@@ -102,7 +114,7 @@ pub fn entries(
     literals: &[Literal],
     count: u8,
 ) -> Result<Vec<Option<u8>>, AllocError>
-    requires { length literals.now ≤ 36 }
+    requires { length literals.now ≤ MOST_LITERALS + MOST_PARAMETERS }
     ensures { IfOk result (λ v. v.items
         ≡ map (entry_of arity literals.now) (range_with_len 0 count)) }
 {

@@ -21,6 +21,7 @@ mod error;
 mod faults;
 mod predicates;
 mod resolving;
+mod terms;
 mod variables;
 
 pub use error::NameError;

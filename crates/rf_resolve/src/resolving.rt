@@ -31,7 +31,10 @@ fn problem_of(alloc: Global, names: &Names) -> Result<Problem, AllocError>
     let objects = resolved_objects(alloc, names, &classes)?;
     let assertions = resolved_assertions(alloc, names)?;
     let scopes = resolved_scopes(alloc, names)?;
-    match Problem::new(classes, references, predicates, objects, assertions, scopes) {
+    let made = Problem::new(
+        alloc, classes, references, predicates, objects, assertions, scopes,
+    )?;
+    match made {
         Some(problem) => Ok(problem),
         None => unreachable!(),
     }

@@ -1,8 +1,10 @@
 //! The variables of a clause and their numbers.
 
 ghost use Rattle.std.specs.Prelude.{◌≡◌, ◌≤◌, IfOk, None, OnOk, Option, if◌then◌else◌, length, position};
-ghost use Rattle.rf_names.specs.Bodies.{is_variable_of, param_names, variable_number, variable_numbers, with_variable, with_variables};
-ghost use Rattle.rf_names.specs.LookUp.{is_blank, reads};
+ghost use Rattle.rf_bounds.specs.declared.TheConstants.{MOST_VARIABLES};
+ghost use Rattle.rf_names.specs.Bodies.{is_variable_of, variable_number, with_variable};
+ghost use Rattle.rf_names.specs.Declarations.{param_names};
+ghost use Rattle.rf_names.specs.Texts.{is_blank, reads};
 
 use rf_names::{is_blank, names_of_params, reads};
 use rf_syntax::{Name, Param};
@@ -68,7 +70,7 @@ impl<'a> Variables<'a> {
     /// The number of the variable that a name stands for, which is known from then on.
     #[tactic(auto, using(crate::proofs::KnownVariables::number_steps))]
     pub fn number(&mut self, name: &'a Name) -> Result<u8, AllocError>
-        requires { length (with_variable self.old name.now) ≤ 8 }
+        requires { length (with_variable self.old name.now) ≤ MOST_VARIABLES }
         ensures number { IfOk result (λ n. n ≡ variable_number self.old name.now) }
         ensures known { OnOk result (self.new ≡ with_variable self.old name.now) }
     {
@@ -80,20 +82,5 @@ impl<'a> Variables<'a> {
                 Ok(number)
             }
         }
-    }
-
-    /// The numbers of the variables that names stand for, which are known from then on.
-    #[tactic(auto, using(crate::proofs::NumberingLemmas::numbering_steps))]
-    pub fn numbers(&mut self, alloc: Global, names: &'a [Name]) -> Result<Vec<u8>, AllocError>
-        requires { length (with_variables self.old names.now) ≤ 8 }
-        ensures numbers { IfOk result (λ v. v.items ≡ variable_numbers self.old names.now) }
-        ensures known { OnOk result (self.new ≡ with_variables self.old names.now) }
-    {
-        let mut numbers = Vec::new(alloc);
-        for name in names {
-            let number = self.number(name)?;
-            numbers.push(number)?;
-        }
-        Ok(numbers)
     }
 }

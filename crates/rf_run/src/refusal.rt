@@ -1,13 +1,13 @@
 use rf_source::SourceError;
 
 /// The most bytes that a problem file may have.
-pub const PROBLEM_LIMIT: u64 = 1_048_576;
+pub const PROBLEM_LIMIT: u64 = 4_194_304;
 
 /// The most bytes that a graph file may have.
 pub const GRAPH_LIMIT: u64 = 67_108_864;
 
 /// The most bytes that a script file may have.
-pub const SCRIPT_LIMIT: u64 = 1_048_576;
+pub const SCRIPT_LIMIT: u64 = 4_194_304;
 
 /// The most bytes that a tree file may have.
 pub const TREE_LIMIT: u64 = 4_611_686_018_427_387_904;

@@ -1,5 +1,5 @@
 -- One variable more of a clause, one literal more, and what problems say of the symbols that literals call.
-use Rattle.std.proofs.Common.{◌≡◌, ℕ, zero, suc, ◌+◌, ◌-◌, ◌<◌, ◌≤◌, max, Bool, true, false, cond, ◌&&◌, eqb, Option, None, List, [], ◌∷◌, ◌++◌, length, get_or, drop, map, refl, inl, inr, sym, ap, add-one, ◌⊎◌, ◌∙◌, subst, arith, drop-cons}
+use Rattle.std.proofs.Common.{◌≡◌, ℕ, zero, suc, ◌+◌, ◌-◌, ◌<◌, ◌≤◌, max, Bool, true, false, cond, ◌&&◌, eqb, Option, None, List, [], ◌∷◌, ◌++◌, length, get_or, drop, refl, inl, inr, sym, ap, add-one, ◌⊎◌, ◌∙◌, subst, arith, drop-cons}
 use Rattle.std.proofs.lemmas.Bool.{and_parts, eqb-true, cases_Bool, cases_order}
 use Rattle.std.proofs.lemmas.List.{get_or_append_left, get_or_past, get_or_push}
 use Rattle.std.specs.List.{list_any}

@@ -1,3 +1,4 @@
+pub mod ChosenNodes
 pub mod Keys
 pub mod Counts
 pub mod PeelingLemmas

@@ -15,9 +15,9 @@ use Rattle.rf_problem.specs.declared.symbol.Symbol.TheVariants.{Reference}
 use Rattle.rf_problem.specs.Valid.{is_free}
 use Rattle.rf_graph.specs.Evaluate.{graph_reading}
 use Rattle.rf_graph.specs.Graph.{has_edge}
-use Rattle.rf_graph.specs.Holds.{ChoosesAtoms}
+use Rattle.rf_satisfy.specs.ChosenNodes.{ChoosesAtoms}
 use Rattle.rf_graph.specs.declared.graph.Graph.{Graph}
-use Rattle.rf_graph.proofs.Chosen.{one-from_some_elements}
+use Rattle.rf_satisfy.proofs.ChosenNodes.{one-from_some_elements}
 use Rattle.rf_satisfy.specs.Evaluation.{literal_at, literals_at, some_literals}
 use Rattle.rf_satisfy.specs.Pruning.{AgreeBelow, FailTogether, FailsFrom, IsAnchor}
 

@@ -2,12 +2,12 @@
 use Rattle.std.proofs.Common.{◌≡◌, ℕ, zero, suc, ◌+◌, ◌<◌, ◌≤◌, max, Bool, true, false, not, ◌&&◌, ◌==◌, if◌then◌else◌, Some, List, [], ◌∷◌, length, map, drop, get_or, refl, sym, ap, ◌∙◌, subst, inl, inr, arith, drop-cons}
 use Rattle.std.specs.Prelude.{slice_index}
 use Rattle.std.specs.List.{list_any}
-use Rattle.std.proofs.lemmas.Bool.{and_parts, and_from, both_ways, cases_Bool, cases_eq, eq-eqb, eqb-true, false_from_ne_true, ne_eqb}
+use Rattle.std.proofs.lemmas.Bool.{and_parts, and_from, both_ways, cases_Bool, eq-eqb, eqb-true, false_from_ne_true}
 use Rattle.std.proofs.lemmas.List.{drop_all, get_or_default}
 use Rattle.std.proofs.lemmas.List.Folds.{Any-from_list_any}
 use Rattle.rf_finite.specs.Range.{some_below}
 use Rattle.rf_finite.proofs.Lists.{list_any-here, list_any-more_pass, list_any-next}
-use Rattle.rf_finite.proofs.Range.{some_below-from_one, some_below-none, some_below-same}
+use Rattle.rf_finite.proofs.Range.{some_below-from_one, some_below-none}
 use Rattle.rf_problem.specs.Asserted.{matches}
 use Rattle.rf_problem.specs.Reading.{Assignment, Choice, assign, atoms_among, element_of}
 use Rattle.rf_problem.specs.declared.predicate.Term.{Term}

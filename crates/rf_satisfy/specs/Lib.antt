@@ -6,6 +6,7 @@ pub mod ContainerOf
 pub mod Peeling
 pub mod Least
 pub mod Objects
+pub mod ChosenNodes
 pub mod Evaluation
 pub mod NodeLists
 pub mod Pruning

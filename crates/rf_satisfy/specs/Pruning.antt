@@ -5,7 +5,7 @@ use Rattle.rf_problem.specs.declared.predicate.Literal.{Literal}
 use Rattle.rf_problem.specs.declared.predicate.Term.{Term}
 use Rattle.rf_problem.specs.declared.problem.Problem.{Problem}
 use Rattle.rf_graph.specs.Graph.{origin_of, size_of}
-use Rattle.rf_graph.specs.Holds.{ChoosesAtoms}
+use Rattle.rf_satisfy.specs.ChosenNodes.{ChoosesAtoms}
 use Rattle.rf_graph.specs.declared.graph.Graph.{Graph}
 use Rattle.rf_satisfy.specs.EdgeEnds.{is_listed}
 use Rattle.rf_satisfy.specs.Evaluation.{literal_at, literals_at}

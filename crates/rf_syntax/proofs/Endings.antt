@@ -31,7 +31,7 @@ use Rattle.rf_syntax.specs.declared.range.Upper.TheVariants.{Absent as NoUpper, 
 use Rattle.rf_syntax.specs.declared.statement.Bound.{Bound}
 use Rattle.rf_syntax.specs.declared.statement.Item.{Item}
 use Rattle.rf_syntax.specs.declared.statement.Statement.{Statement}
-use Rattle.rf_syntax.specs.declared.statement.Statement.TheVariants.{Class, Predicate, Declare, Multi, Scope, Assert}
+use Rattle.rf_syntax.specs.declared.statement.Statement.TheVariants.{Class, Enum, Predicate, Declare, Multi, Atoms, Scope, Assert}
 use Rattle.rf_syntax.specs.Assertion.{arg_pieces, assertion_pieces, atom_pieces, value_pieces}
 use Rattle.rf_syntax.specs.Class.{feature_pieces, feature_word_pieces, with_mult_pieces}
 use Rattle.rf_syntax.specs.Laws.{EndsOnce, StatementEndsOnce, StatementsAreApart, ends_statement, first_of_statement}
@@ -41,7 +41,7 @@ use Rattle.rf_syntax.specs.Parts.{each_after, flagged, in_parens, optional, opti
 use Rattle.rf_syntax.specs.Predicate.{clause_pieces, literal_pieces, param_pieces, start_pieces}
 use Rattle.rf_syntax.specs.Range.{mult_pieces, range_pieces, upper_pieces}
 use Rattle.rf_syntax.specs.Statement.{bound_pieces, item_pieces, spelled_statement}
-use Rattle.rf_syntax.specs.Terminals.{abstract_word, class_word, declare_word, default_word, extends_word, multi_word, opposite_word, scope_word, bang, colon_colon, comma, dot, equal, left_brace, plus, plus_equal, right_brace, semicolon}
+use Rattle.rf_syntax.specs.Terminals.{abstract_word, atom_word, class_word, declare_word, default_word, enum_word, extends_word, multi_word, opposite_word, scope_word, bang, colon_colon, comma, dot, equal, left_brace, plus, plus_equal, right_brace, semicolon}
 use Rattle.rf_syntax.proofs.Beginnings.{statement_begins}
 use Rattle.rf_syntax.proofs.Joined.{kinds_joined}
 
@@ -211,6 +211,10 @@ statement_ends (Class is_abstract name supers None) = ended dot refl (in_head is
 statement_ends (Class is_abstract name supers (Some features)) =
     ended_at right_brace (sym (append_assoc (head_of_class is_abstract name supers) (terminal left_brace ∷ flat_map feature_pieces features) (terminal right_brace ∷ []))) refl
     (join (in_head is_abstract name supers) (after refl (in_each in_feature features)))
+statement_ends (Enum name None) = ended dot refl (after {piece = terminal enum_word} refl (in_name name))
+statement_ends (Enum name (Some literals)) =
+    ended_at right_brace (sym (append_assoc (terminal enum_word ∷ name_pieces name) (terminal left_brace ∷ separated_or_none comma name_pieces literals) (terminal right_brace ∷ []))) refl
+    (join (after {piece = terminal enum_word} refl (in_name name)) (after refl (in_separated_or_none in_name comma refl literals)))
 statement_ends (Predicate start name params clauses) =
     ended dot refl
     (join
@@ -218,6 +222,7 @@ statement_ends (Predicate start name params clauses) =
     (after refl (in_separated in_clause semicolon refl clauses)))
 statement_ends (Declare names) = ended dot refl (after {piece = terminal declare_word} refl (in_separated in_name comma refl names))
 statement_ends (Multi items) = ended dot refl (after {piece = terminal multi_word} refl (in_separated in_item comma refl items))
+statement_ends (Atoms names) = ended dot refl (after {piece = terminal atom_word} refl (in_separated in_name comma refl names))
 statement_ends (Scope bounds) = ended dot refl (after {piece = terminal scope_word} refl (in_separated in_bound comma refl bounds))
 statement_ends (Assert is_default assertion) = ended dot refl (join (in_flagged is_default default_word refl) (in_assertion assertion))
 

@@ -1,4 +1,4 @@
-use Rattle.std.specs.Prelude.{Bool, List, [], ◌∷◌, ◌++◌, Option, None, Some}
+use Rattle.std.specs.Prelude.{Bool, List, [], ◌∷◌, ◌++◌, Option}
 use Rattle.std.specs.List.{flat_map}
 use Rattle.rf_syntax.specs.declared.class.Feature.{Feature}
 use Rattle.rf_syntax.specs.declared.class.FeatureWord.{FeatureWord}
@@ -8,10 +8,10 @@ use Rattle.rf_syntax.specs.declared.class.MultPlace.TheVariants.{Absent, AfterTy
 use Rattle.rf_syntax.specs.declared.non_empty.NonEmpty.{NonEmpty}
 use Rattle.rf_syntax.specs.declared.name.Name.{Name}
 use Rattle.rf_syntax.specs.Name.{name_pieces}
-use Rattle.rf_syntax.specs.Parts.{flagged, optional, optional_after, separated}
+use Rattle.rf_syntax.specs.Parts.{dot_or_braces, flagged, optional, optional_after, separated}
 use Rattle.rf_syntax.specs.Piece.{Piece, terminal}
 use Rattle.rf_syntax.specs.Range.{mult_pieces}
-use Rattle.rf_syntax.specs.Terminals.{abstract_word, class_word, contains_word, container_word, extends_word, opposite_word, refers_word, comma, dot, left_brace, right_brace, semicolon}
+use Rattle.rf_syntax.specs.Terminals.{abstract_word, class_word, contains_word, container_word, extends_word, opposite_word, refers_word, comma, semicolon}
 
 -- "contains" | "container" | "refers"
 abbrev pub feature_word_pieces : FeatureWord → List Piece
@@ -37,9 +37,7 @@ feature_pieces f =
 
 -- "." | "{" { feature } "}"
 abbrev pub body_pieces : Option (List Feature) → List Piece
-body_pieces None = terminal dot ∷ []
-body_pieces (Some features) =
-    terminal left_brace ∷ flat_map feature_pieces features ++ terminal right_brace ∷ []
+body_pieces features = dot_or_braces (flat_map feature_pieces) features
 
 -- [ "abstract" ] "class" NAME [ "extends" NAME { "," NAME } ] ( "." | "{" { feature } "}" )
 abbrev pub class_pieces :

@@ -9,10 +9,10 @@ use Rattle.rf_syntax.specs.declared.assertion.AssertionForm.TheVariants.{Plain, 
 use Rattle.rf_syntax.specs.declared.predicate.PredicateWord.{PredicateWord}
 use Rattle.rf_syntax.specs.declared.predicate.PredicateWord.TheVariants.{Pred, Error, ErrorPred}
 use Rattle.rf_syntax.specs.declared.statement.Statement.{Statement}
-use Rattle.rf_syntax.specs.declared.statement.Statement.TheVariants.{Class, Predicate, Declare, Multi, Scope, Assert}
+use Rattle.rf_syntax.specs.declared.statement.Statement.TheVariants.{Class, Enum, Predicate, Declare, Multi, Atoms, Scope, Assert}
 use Rattle.rf_syntax.specs.Name.{kind_of_name}
 use Rattle.rf_syntax.specs.Statement.{spelled_statement}
-use Rattle.rf_syntax.specs.Terminals.{abstract_word, class_word, declare_word, default_word, error_word, multi_word, pred_word, scope_word, bang, question}
+use Rattle.rf_syntax.specs.Terminals.{abstract_word, atom_word, class_word, declare_word, default_word, enum_word, error_word, multi_word, pred_word, scope_word, bang, question}
 
 -- the kind with which an assertion begins
 abbrev pub first_of_assertion : AssertionForm → Kind
@@ -31,9 +31,11 @@ first_of_predicate ErrorPred = error_word
 abbrev pub first_of_statement : Statement → Kind
 first_of_statement (Class is_abstract name supers body) =
     (if is_abstract then abstract_word else class_word)
+first_of_statement (Enum name literals) = enum_word
 first_of_statement (Predicate start name params clauses) = first_of_predicate start
 first_of_statement (Declare names) = declare_word
 first_of_statement (Multi items) = multi_word
+first_of_statement (Atoms names) = atom_word
 first_of_statement (Scope bounds) = scope_word
 first_of_statement (Assert is_default assertion) =
     (if is_default then default_word else first_of_assertion assertion)

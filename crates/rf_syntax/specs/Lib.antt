@@ -1,5 +1,6 @@
 pub mod Assertion
 pub mod Class
+pub mod Enum
 pub mod Laws
 pub mod Name
 pub mod Parts

@@ -4,7 +4,7 @@ use Rattle.std.specs.List.{flat_map}
 use Rattle.rf_lexer.specs.declared.token.Kind.{Kind}
 use Rattle.rf_syntax.specs.declared.non_empty.NonEmpty.{NonEmpty}
 use Rattle.rf_syntax.specs.Piece.{Piece, terminal}
-use Rattle.rf_syntax.specs.Terminals.{left_paren, right_paren}
+use Rattle.rf_syntax.specs.Terminals.{dot, left_brace, left_paren, right_brace, right_paren}
 
 -- [ kind ]: the kind, where a flag is set
 abbrev pub flagged : Bool → Kind → List Piece
@@ -37,3 +37,8 @@ separated_or_none kind pieces (part ∷ parts) = pieces part ++ each_after kind 
 -- "(" inner ")"
 abbrev pub in_parens : List Piece → List Piece
 in_parens inner = terminal left_paren ∷ inner ++ terminal right_paren ∷ []
+
+-- "." | "{" part "}"
+abbrev pub dot_or_braces : {T : Type 0} → (T → List Piece) → Option T → List Piece
+dot_or_braces pieces None = terminal dot ∷ []
+dot_or_braces pieces (Some part) = terminal left_brace ∷ pieces part ++ terminal right_brace ∷ []

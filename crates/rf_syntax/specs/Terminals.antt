@@ -1,7 +1,7 @@
 -- The terminals of the grammar: the words and marks of which statements are made, each as a kind of
 -- token.
 use Rattle.std.specs.Prelude.{ℕ}
-use Rattle.rf_lexer.specs.declared.keyword.Keyword.TheVariants.{Abstract, Class, Container, Contains, Declare, Default, Error, Extends, False, Multi, Opposite, Pred, Refers, Scope, True, Unknown}
+use Rattle.rf_lexer.specs.declared.keyword.Keyword.TheVariants.{Abstract, Atom, Class, Container, Contains, Declare, Default, Enum, Error, Extends, False, Multi, Opposite, Pred, Refers, Scope, True, Unknown}
 use Rattle.rf_lexer.specs.declared.mark.Mark.TheVariants.{Dot, DotDot, Comma, Semicolon, Colon, ColonColon, LeftParen, RightParen, LeftBracket, RightBracket, LeftBrace, RightBrace, Bang, Question, Star, Plus, Equal, PlusEqual, EqualEqual, BangEqual, Iff}
 use Rattle.rf_lexer.specs.declared.token.Kind.{Kind}
 use Rattle.rf_lexer.specs.declared.token.Kind.TheVariants.{Word, Number, Mark}
@@ -12,6 +12,9 @@ number n = Number n
 
 abbrev pub abstract_word : Kind
 abstract_word = Word Abstract
+
+abbrev pub atom_word : Kind
+atom_word = Word Atom
 
 abbrev pub class_word : Kind
 class_word = Word Class
@@ -27,6 +30,9 @@ declare_word = Word Declare
 
 abbrev pub default_word : Kind
 default_word = Word Default
+
+abbrev pub enum_word : Kind
+enum_word = Word Enum
 
 abbrev pub error_word : Kind
 error_word = Word Error

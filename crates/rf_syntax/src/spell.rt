@@ -11,6 +11,7 @@ use std::alloc::{AllocError, Global};
 
 mod assertions;
 mod classes;
+mod enums;
 mod names;
 mod parts;
 mod predicates;

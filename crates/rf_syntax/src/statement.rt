@@ -16,6 +16,11 @@ pub enum Statement {
         /// The features between braces, or None where a `.` ends the statement.
         body: Option<Items<Feature>>,
     },
+    Enum {
+        name: Name,
+        /// The literals between braces, or None where a `.` ends the statement.
+        literals: Option<Items<Name>>,
+    },
     Predicate {
         start: PredicateWord,
         name: Name,
@@ -24,6 +29,7 @@ pub enum Statement {
     },
     Declare(NonEmpty<Name>),
     Multi(NonEmpty<Item>),
+    Atoms(NonEmpty<Name>),
     Scope(NonEmpty<Bound>),
     Assert {
         is_default: bool,

@@ -76,7 +76,7 @@ value_walked names name rows (x ∷ xs) plain among names_fit =
     let found = by_id names name among names_fit in
     rw (e, e, found, same_text name) refl
 
--- an option's word, behind its two dashes
+-- the word of an option, after its two dashes
 abbrev pub dashed : ℕ → Text → Text
 dashed x xs = 45 ∷ 45 ∷ x ∷ xs
 

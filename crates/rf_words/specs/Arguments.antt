@@ -1,4 +1,4 @@
--- What the words behind a command's name say.
+-- What the words after a command's name say.
 use Rattle.std.specs.Prelude.{ℕ, Bool, false, not, ◌&&◌, ◌==◌, List, [], ◌∷◌, map, Option, None, Some, option_map, option_and_then, if◌then◌else◌}
 use Rattle.std.specs.List.{list_any, filter, before_first, after_first}
 use Rattle.std.specs.Str.{bytes_eq}
@@ -26,10 +26,10 @@ abbrev pub is_plain : Text → Bool
 is_plain [] = false
 is_plain (b ∷ bs) = not (b == 45)
 
--- what stands behind two dashes
-abbrev pub behind_dashes : Text → Option Text
-behind_dashes (a ∷ b ∷ rest) = if a == 45 && b == 45 then Some rest else None
-behind_dashes _ = None
+-- what follows two dashes
+abbrev pub after_dashes : Text → Option Text
+after_dashes (a ∷ b ∷ rest) = if a == 45 && b == 45 then Some rest else None
+after_dashes _ = None
 
 -- `NAME` or `NAME=VALUE`, cut at its first `=` (61)
 abbrev pub name_of_option : Text → Text
@@ -49,9 +49,9 @@ option_of names text = if is_among names (name_of_option text)
 
 -- the option that a word is, `--NAME` or `--NAME=VALUE`
 abbrev pub option_in : List Text → Text → Option (Text × Option Text)
-option_in names word = option_and_then (option_of names) (behind_dashes word)
+option_in names word = option_and_then (option_of names) (after_dashes word)
 
--- what a word that is no plain one says, where `rest` is said by the words behind it, by the option
+-- what a word that is no plain one says, where `rest` is said by the words after it, by the option
 -- that waits for its value
 abbrev pub said_by : Option (Text × Option Text) → (Option Text → Option Arguments) → Option Arguments
 said_by None rest = None

@@ -1,7 +1,7 @@
 ghost use Rattle.std.specs.Prelude.{◌≡◌, ◌==◌, map, is_some, option_map, IfOk, IfErr, None, true};
 ghost use Rattle.std.specs.List.{list_all, list_any, position};
 ghost use Rattle.std.specs.Str.{bytes_eq};
-ghost use Rattle.rf_words.specs.Arguments.{behind_dashes, is_plain, name_of_option, option_in, said};
+ghost use Rattle.rf_words.specs.Arguments.{after_dashes, is_plain, name_of_option, option_in, said};
 ghost use Rattle.rf_words.specs.Reader.{is_word, texts};
 
 use crate::WordsError;
@@ -17,8 +17,8 @@ fn is_plain(word: &str) -> bool
     }
 }
 
-fn behind_dashes(word: &str) -> Option<&[u8]>
-    ensures { option_map (λ text. text.now) result ≡ behind_dashes word.now }
+fn after_dashes(word: &str) -> Option<&[u8]>
+    ensures { option_map (λ text. text.now) result ≡ after_dashes word.now }
 {
     match word.as_bytes() {
         [b'-', b'-', rest @ ..] => Some(rest),
@@ -32,7 +32,7 @@ fn equals_at(text: &[u8]) -> Option<usize>
     text.iter().position(|b| *b == b'=')
 }
 
-// What stands in front of the first `=`.
+// What is before the first `=`.
 fn name_of(text: &[u8]) -> &[u8]
     ensures { result.now ≡ name_of_option text.now }
 {
@@ -51,7 +51,7 @@ fn is_among(names: &[&str], name: &[u8]) -> bool
 fn is_option(names: &[&str], word: &str) -> bool
     ensures { result ≡ is_some (option_in (texts names.now) word.now) }
 {
-    match behind_dashes(word) {
+    match after_dashes(word) {
         Some(text) => is_among(names, name_of(text)),
         None => false,
     }

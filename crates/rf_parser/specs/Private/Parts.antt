@@ -15,7 +15,7 @@ use Rattle.rf_syntax.specs.Name.{name_pieces}
 use Rattle.rf_syntax.specs.Parts.{flagged, in_parens, optional_after, separated, separated_or_none}
 use Rattle.rf_syntax.specs.Piece.{Piece, terminal}
 use Rattle.rf_syntax.specs.Statement.{statement_pieces}
-use Rattle.rf_syntax.specs.Terminals.{abstract_word, class_word, declare_word, error_word, multi_word, pred_word, scope_word, bang_equal, colon_colon, comma, dot, equal, equal_equal, plus, plus_equal, right_brace}
+use Rattle.rf_syntax.specs.Terminals.{abstract_word, atom_word, class_word, declare_word, enum_word, error_word, multi_word, pred_word, scope_word, bang_equal, colon_colon, comma, dot, equal, equal_equal, plus, plus_equal, right_brace}
 use Rattle.rf_parser.specs.declared.predicates.CallTail.{CallTail}
 use Rattle.rf_parser.specs.declared.predicates.LiteralTail.{LiteralTail}
 use Rattle.rf_parser.specs.declared.predicates.LiteralTail.TheVariants.{Same, Differ, Call}
@@ -34,6 +34,10 @@ single kind nothing = terminal kind ∷ []
 -- [ mult ] NAME | NAME mult
 abbrev pub mult_and_name : MultPlace × Name → List Piece
 mult_and_name p = with_mult_pieces p.0 p.1
+
+-- [ part { "," part } ] close
+abbrev pub listed_to : {T : Type 0} → Kind → (T → List Piece) → List T → List Piece
+listed_to close pieces parts = separated_or_none comma pieces parts ++ terminal close ∷ []
 
 -- "(" [ part { "," part } ] ")"
 abbrev pub listed_in_parens : {T : Type 0} → (T → List Piece) → List T → List Piece
@@ -89,7 +93,9 @@ BeginsPredicate first = (first ≡ Some pred_word) ⊎ (first ≡ Some error_wor
 -- no statement but an assertion begins with the kind
 pub record BeginsNoWord (first : Option Kind) : Type 0 where
   pub no_class : BeginsClass first → ⊥
+  pub no_enum : first ≡ Some enum_word → ⊥
   pub no_predicate : BeginsPredicate first → ⊥
   pub no_declare : first ≡ Some declare_word → ⊥
   pub no_multi : first ≡ Some multi_word → ⊥
+  pub no_atoms : first ≡ Some atom_word → ⊥
   pub no_scope : first ≡ Some scope_word → ⊥

@@ -1,12 +1,14 @@
 //! The assertions of a problem.
 
 ghost use Rattle.std.specs.Prelude.{◌≡◌, IfOk, map};
+ghost use Rattle.rf_names.specs.Declarations.{object_name};
 ghost use Rattle.rf_names.specs.LookUp.{class_named, new_object_of, the_number, the_symbol};
 ghost use Rattle.rf_resolve.specs.Resolved.{object_or_new, resolved_arg, resolved_assertion};
 
-use rf_names::{AssertDeclaration, Names, Sense};
+use crate::building::objects::object_number;
+use rf_names::{AssertDeclaration, Names, Sense, object_name};
 use rf_problem::{Assertion, Symbol};
-use rf_syntax::{Arg, Name};
+use rf_syntax::{Arg, SymbolName};
 use rf_text::Items;
 use std::alloc::{AllocError, Global};
 
@@ -31,13 +33,14 @@ fn new_object_number(names: &Names, class: &str) -> u64
     }
 }
 
-fn object_or_new(names: &Names, name: &Name, member: &Option<Name>) -> u64
-    ensures { result ≡ object_or_new names.now.declared.now name.now member.now }
+// The object that an argument stands for: the named one, else the new object of its class.
+fn object_or_new(names: &Names, symbol: &SymbolName) -> u64
+    ensures { result ≡ object_or_new names.now.declared.now
+        (object_name symbol.now.name symbol.now.member) symbol.now.name }
 {
-    let text = name.text.as_str();
-    match member {
-        None => names.object_named(text).unwrap_or(0),
-        Some(_) => new_object_number(names, text),
+    match object_name(symbol) {
+        Some(name) => object_number(names, name),
+        None => new_object_number(names, symbol.name.text.as_str()),
     }
 }
 
@@ -46,7 +49,7 @@ fn resolved_arg(names: &Names, arg: &Arg) -> Option<u64>
 {
     match arg {
         Arg::Star => None,
-        Arg::Symbol(s) => Some(object_or_new(names, &s.name, &s.member)),
+        Arg::Symbol(symbol) => Some(object_or_new(names, symbol)),
     }
 }
 

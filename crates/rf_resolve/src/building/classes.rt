@@ -41,6 +41,7 @@ fn resolved_class(
     Ok(Class {
         name,
         is_abstract: form.is_abstract,
+        is_enum: form.is_enum,
         supers: Items::from_vec(supers),
     })
 }

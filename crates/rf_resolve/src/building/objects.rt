@@ -2,14 +2,14 @@
 
 ghost use Rattle.std.specs.Prelude.{◌≡◌, ◌≤◌, ◌++◌, IfOk, length, map};
 ghost use Rattle.rf_bounds.specs.declared.TheConstants.{MOST_CLASSES};
-ghost use Rattle.rf_problem.specs.Valid.{concrete_numbers, new_object};
+ghost use Rattle.rf_problem.specs.Valid.{new_numbers, new_object};
 ghost use Rattle.std.specs.Option.{option_map};
-ghost use Rattle.rf_names.specs.LookUp.{named_objects};
-ghost use Rattle.rf_resolve.specs.Resolved.{count_of_item, resolved_object};
+ghost use Rattle.rf_names.specs.LookUp.{named_objects, object_named, the_number};
+ghost use Rattle.rf_resolve.specs.Resolved.{count_of_item, kind_by_atom, kind_of_object, resolved_object};
 
 use crate::building::multiplicity::count_or_any;
 use rf_names::Names;
-use rf_problem::{Class, ObjectDecl, ObjectName, new_objects};
+use rf_problem::{Class, ObjectDecl, ObjectKind, ObjectName, new_objects};
 use rf_syntax::{Item, Name};
 use rf_values::Count;
 use std::alloc::{AllocError, Global};
@@ -23,14 +23,42 @@ fn count_of_item(item: Option<&Item>) -> Count
     }
 }
 
+fn kind_by_atom(is_atom: bool) -> ObjectKind
+    ensures { result ≡ kind_by_atom is_atom }
+{
+    if is_atom {
+        ObjectKind::Atom
+    } else {
+        ObjectKind::Plain
+    }
+}
+
+fn kind_of_object(names: &Names, text: &str) -> ObjectKind
+    ensures { result ≡ kind_of_object names.now.declared.now text.now }
+{
+    match names.enum_of(text) {
+        Some(class) => ObjectKind::LiteralOf(class),
+        None => kind_by_atom(names.is_atom(text)),
+    }
+}
+
+/// The number of the object of this name. Where no rule is broken there is one.
+pub fn object_number(names: &Names, name: &Name) -> u64
+    ensures { result ≡ the_number (object_named names.now.declared.now name.now.text) }
+{
+    names.object_named(name.text.as_str()).unwrap_or(0)
+}
+
 fn resolved_object(names: &Names, name: &Name) -> Result<ObjectDecl, AllocError>
     ensures { IfOk result (λ object. object ≡ resolved_object names.now.declared.now name.now) }
 {
     let text = name.text.clone()?;
     let count = count_of_item(names.item_named(name.text.as_str()));
+    let kind = kind_of_object(names, name.text.as_str());
     Ok(ObjectDecl {
         name: ObjectName::Named(text),
         count,
+        kind,
     })
 }
 
@@ -54,7 +82,7 @@ pub fn resolved_objects(
     requires { length classes.now ≤ MOST_CLASSES }
     ensures { IfOk result (λ objects. objects.items
         ≡ map (resolved_object names.now.declared.now) (named_objects names.now.declared.now)
-        ++ map new_object (concrete_numbers 0 classes.now)) }
+        ++ map new_object (new_numbers 0 classes.now)) }
 {
     let mut objects = resolved_names(alloc, names)?;
     let mut stock = new_objects(alloc, classes)?;

@@ -5,6 +5,7 @@ ghost use Rattle.rf_syntax.specs.Statement.{bound_pieces, item_pieces, statement
 ghost use Rattle.rf_syntax.specs.Terminals.{comma, dot};
 
 use super::classes::push_class;
+use super::enums::push_enum;
 use super::parts::{push_flagged, push_mark, push_optional_after, push_word};
 use super::predicates::push_predicate;
 use super::production::Production;
@@ -79,6 +80,7 @@ impl Production for Statement {
                 supers,
                 body,
             } => push_class(out, *is_abstract, name, supers, body),
+            Statement::Enum { name, literals } => push_enum(out, name, literals),
             Statement::Predicate {
                 start,
                 name,
@@ -87,6 +89,7 @@ impl Production for Statement {
             } => push_predicate(out, *start, name, params, clauses),
             Statement::Declare(names) => push_list(out, Keyword::Declare, names),
             Statement::Multi(items) => push_list(out, Keyword::Multi, items),
+            Statement::Atoms(names) => push_list(out, Keyword::Atom, names),
             Statement::Scope(bounds) => push_list(out, Keyword::Scope, bounds),
             Statement::Assert {
                 is_default,

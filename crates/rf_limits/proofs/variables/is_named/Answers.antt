@@ -1,6 +1,6 @@
 use Rattle.std.proofs.Common.{◌≡◌, true, arith, sym}
 use Rattle.std.proofs.lemmas.Grind.{common_steps}
-use Rattle.rf_names.specs.LookUp.{reads}
+use Rattle.rf_names.specs.Texts.{reads}
 use Rattle.rf_limits.proofs.VariablesPast.{any_lent_at}
 use Rattle.rf_limits.proofs.variables.is_named.Goals as goal
 

@@ -1,6 +1,6 @@
 use Rattle.std.proofs.Common.{◌≡◌, false, map, take}
 use Rattle.std.specs.List.{list_any}
-use Rattle.rf_names.specs.LookUp.{reads}
+use Rattle.rf_names.specs.Texts.{reads}
 use Rattle.rf_limits.proofs.variables.is_named.Given as goal
 
 abbrev pub invariant-loop-other : goal.invariant-loop-other

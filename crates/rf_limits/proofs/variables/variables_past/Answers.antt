@@ -6,4 +6,6 @@ use Rattle.rf_limits.proofs.variables.variables_past.Goals as goal
 
 pub returns-then-params-limit : goal.returns-then-params-limit
 returns-then-params-limit c =
-    c.past.ensures ∙ ap least_of (sym (passed_by_params c.args.limit c.args.params.now (clause_names c.args.clause.now) (omega arith)))
+    let params = c.args.arguments.now.params.now in
+    c.past.ensures
+    ∙ ap least_of (sym (passed_by_params c.args.limit params (clause_names c.args.arguments.now.names.now.declared.now params c.args.clause.now) (omega arith)))

@@ -20,5 +20,5 @@ returns c =
     (c.lesser.ensures
     ∙ least_join (references d.references) (literals d.predicates) c.in_ok-references.references c.in_ok-literals.literals
     (c.in_ok-references.ensures ∙ ap (λ rs. least_of (references rs)) (c.as_slice.ensures.value ∙ ap (λ (k : Declared). k.references) viewed))
-    (c.in_ok-literals.ensures ∙ ap (λ ps. least_of (literals ps)) (c.as_slice-2.ensures.value ∙ ap (λ (k : Declared). k.predicates) viewed)))
-    (c.in_ok-assertions.ensures ∙ ap (λ xs. least_of (assertions xs)) (c.as_slice-3.ensures.value ∙ ap (λ (k : Declared). k.assertions) viewed))
+    c.in_ok-literals.ensures)
+    (c.in_ok-assertions.ensures ∙ ap (λ xs. least_of (assertions xs)) (c.as_slice-2.ensures.value ∙ ap (λ (k : Declared). k.assertions) viewed))

@@ -1,5 +1,5 @@
 use Rattle.std.proofs.Common.{◌≡◌, false, map, take}
-use Rattle.rf_names.specs.LookUp.{is_text_of}
+use Rattle.rf_names.specs.Texts.{is_text_of}
 use Rattle.rf_name_rules.proofs.repeats.is_reserved.Given as goal
 
 abbrev pub invariant-loop-text : goal.invariant-loop-text

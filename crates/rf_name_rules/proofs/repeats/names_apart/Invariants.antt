@@ -1,5 +1,5 @@
 use Rattle.std.proofs.Common.{◌≡◌, map, take, filter, not}
-use Rattle.rf_names.specs.LookUp.{is_blank}
+use Rattle.rf_names.specs.Texts.{is_blank}
 use Rattle.rf_name_rules.proofs.repeats.names_apart.Given as goal
 
 abbrev pub invariant-loop-param : goal.invariant-loop-param

@@ -3,7 +3,7 @@ use Rattle.std.specs.List.{list_any}
 use Rattle.std.specs.Str.{bytes_eq}
 use Rattle.rf_syntax.specs.declared.name.Name.{Name}
 use Rattle.rf_names.specs.Offsets.{least_of}
-use Rattle.rf_names.specs.LookUp.{is_text_of}
+use Rattle.rf_names.specs.Texts.{is_text_of}
 use Rattle.rf_name_rules.specs.RuleOffsets.{repeated}
 use Rattle.rf_name_rules.proofs.RepeatedNames.{names_more, one_more_mark, one_more_offset}
 use Rattle.rf_name_rules.proofs.repeats.repeated.Goals as goal

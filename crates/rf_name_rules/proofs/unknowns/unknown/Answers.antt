@@ -3,14 +3,14 @@ use Rattle.std.specs.List.{flat_map}
 use Rattle.rf_names.specs.Declarations.{AssertDecl, ClassDecl, Declared, PredicateDecl, ReferenceDecl}
 use Rattle.rf_syntax.specs.declared.statement.Bound.{Bound}
 use Rattle.rf_names.specs.Offsets.{least_of, offsets_in_literals}
-use Rattle.rf_name_rules.specs.RuleOffsets.{unknown_assertion, unknown_bound, unknown_class, unknown_literal, unknown_param_class, unknown_reference}
+use Rattle.rf_name_rules.specs.RuleOffsets.{unknown_assertion, unknown_bound, unknown_literal, unknown_param_class, unknown_reference, unknown_super}
 use Rattle.rf_name_rules.proofs.JoinedOffsets.{least_join}
 use Rattle.rf_name_rules.proofs.unknowns.unknown.Goals as goal
 
 pub returns : goal.returns
 returns c =
     let d = c.args.names.now.declared.now in
-    let supers = λ (cs : List ClassDecl). flat_map (λ k. flat_map (unknown_class d) k.supers) cs in
+    let supers = λ (cs : List ClassDecl). flat_map (λ k. flat_map (unknown_super d) k.supers) cs in
     let references = λ (rs : List ReferenceDecl). flat_map (unknown_reference d) rs in
     let params = λ (ps : List PredicateDecl). flat_map (λ p. flat_map (λ param. unknown_param_class d param.class) p.params) ps in
     let bounds = λ (bs : List Bound). flat_map (λ b. unknown_bound d b.name) bs in
@@ -36,5 +36,5 @@ returns c =
     (c.in_ok-references.ensures ∙ ap (λ rs. least_of (references rs)) (c.as_slice-2.ensures.value ∙ ap (λ (k : Declared). k.references) viewed)))
     (c.in_ok-predicates.ensures ∙ ap (λ ps. least_of (params ps)) (c.as_slice-3.ensures.value ∙ ap (λ (k : Declared). k.predicates) viewed)))
     (c.in_ok-bounds.ensures ∙ ap (λ bs. least_of (bounds bs)) (ap (map (λ (b : Bor Bound). b.now)) c.as_slice-4.ensures.value ∙ ap (λ (k : Declared). k.bounds) viewed)))
-    (c.in_ok-literals.ensures ∙ ap (λ ps. least_of (literals ps)) (c.as_slice-5.ensures.value ∙ ap (λ (k : Declared). k.predicates) viewed)))
-    (c.in_ok-assertions.ensures ∙ ap (λ xs. least_of (assertions xs)) (c.as_slice-6.ensures.value ∙ ap (λ (k : Declared). k.assertions) viewed))
+    c.in_ok-literals.ensures)
+    (c.in_ok-assertions.ensures ∙ ap (λ xs. least_of (assertions xs)) (c.as_slice-5.ensures.value ∙ ap (λ (k : Declared). k.assertions) viewed))

@@ -6,7 +6,7 @@ use Rattle.rf_resolve.proofs.predicates.written.Given as goal
 abbrev pub invariant-loop-literal : goal.invariant-loop-literal
 invariant-loop-literal l = record {
   known : l.known ≡ with_variables l.initial.known
-      (clause_names (map (λ m. m.now) (take l.literal-index l.literals)));
-  written : l.written.items ≡ resolved_literals l.names.declared.now l.initial.known
+      (clause_names l.arguments.names.now.declared.now l.arguments.params.now (map (λ m. m.now) (take l.literal-index l.literals)));
+  written : l.written.items ≡ resolved_literals l.arguments.names.now.declared.now l.arguments.params.now l.initial.known
       (map (λ m. m.now) (take l.literal-index l.literals));
 }

@@ -1,12 +1,11 @@
-use Rattle.std.proofs.Common.{rules, arith, sym, ◌∙◌, ◌≡◌, ◌<◌, ◌≤◌, true, ap, max, ℕ, ◌+◌, subst, map, [], ◌∷◌, add-one, length, get_or, suc, refl, drop}
+use Rattle.std.proofs.Common.{rules, arith, sym, ◌∙◌, ◌≡◌, ◌<◌, ◌≤◌, true, ap, max, ℕ, ◌+◌, subst, [], ◌∷◌, add-one, length, get_or, suc, refl, drop}
 use Rattle.std.proofs.lemmas.List.{drop_all, get_or_default}
 use Rattle.std.proofs.lemmas.Result.{IfOk-weaker}
-use Rattle.std.specs.Prelude.{slice_index}
 use Rattle.rf_finite.proofs.Range.{some_below-from_one}
 use Rattle.rf_finite.proofs.Lists.{list_any-here, list_any-next}
 use Rattle.rf_finite.proofs.Walks.{walk_below-same}
 use Rattle.rf_graph.specs.Graph.{size_of}
-use Rattle.rf_satisfy.proofs.EvaluationLemmas.{some_assignment-at, AreNodes-assign, AreNodes-pair, atom_at-empty, atom_at-same, symbol_at-same, predicate_true-deeper, row-more, declared-from_IsSound}
+use Rattle.rf_satisfy.proofs.EvaluationLemmas.{some_assignment-at, AreNodes-assign, AreNodes-pair, atom_at-empty, symbol_at-same, predicate_true-deeper, row-more}
 use Rattle.rf_satisfy.proofs.NeighbourLemmas.{some_below-listed}
 use Rattle.rf_satisfy.proofs.PruningLemmas.{pruned}
 use Rattle.rf_satisfy.proofs.TermLemmas.{AreNodes-variables, AreNodes-with_atom, IsClaimFor-ended, IsClaimFor-found, IsClaimFor-none, IsUndecided-next, atoms_among-atom, atoms_among-variable, claim_of-from_start}

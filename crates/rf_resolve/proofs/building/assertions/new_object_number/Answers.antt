@@ -1,5 +1,5 @@
 use Rattle.std.proofs.Common.{◌∙◌, sym}
-use Rattle.rf_names.specs.LookUp.{reads}
+use Rattle.rf_names.specs.Texts.{reads}
 use Rattle.rf_resolve.proofs.NumberFacts.{position_below}
 use Rattle.rf_resolve.proofs.building.assertions.new_object_number.Goals as goal
 

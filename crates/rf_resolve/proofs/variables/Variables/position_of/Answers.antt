@@ -2,7 +2,7 @@ use Rattle.std.proofs.Common.{◌∙◌, List, ap, sym}
 use Rattle.std.specs.Prelude.{position}
 use denote.Ref.{Bor}
 use Rattle.rf_syntax.specs.declared.name.Name.{Name}
-use Rattle.rf_names.specs.LookUp.{reads}
+use Rattle.rf_names.specs.Texts.{reads}
 use Rattle.rf_resolve.proofs.KnownVariables.{position_of_made}
 use Rattle.rf_resolve.proofs.variables.Variables.position_of.Goals as goal
 

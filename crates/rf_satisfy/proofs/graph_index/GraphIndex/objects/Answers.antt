@@ -1,5 +1,4 @@
-use Rattle.std.proofs.Common.{sym, subst, ℕ, ◌<◌}
-use Rattle.rf_graph.specs.Graph.{no_node, origin_of}
+use Rattle.rf_graph.specs.Graph.{no_node}
 use Rattle.rf_satisfy.proofs.graph_index.GraphIndex.objects.Goals as goal
 
 pub returns-clause-origins : goal.returns-clause-origins

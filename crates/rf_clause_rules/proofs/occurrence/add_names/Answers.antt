@@ -1,8 +1,0 @@
-use Rattle.rf_clause_rules.proofs.LooseLemmas.{named_more}
-use Rattle.rf_clause_rules.proofs.occurrence.add_names.Goals as goal
-
-pub loop-name-preserved : goal.loop-name-preserved
-loop-name-preserved c = λ text.
-    named_more c.args.literal c.args.negated c.args.names.now c.loop-name.name-index
-    c.name-item.result text _ _ _ c.loop-name-test.true c.name-item.is
-    (c.loop-name.invariant text) (c.in_ok-add_name.ensures text)

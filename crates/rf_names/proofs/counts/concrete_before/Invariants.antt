@@ -1,9 +1,0 @@
-use Rattle.std.proofs.Common.{◌≡◌}
-use Rattle.rf_names.specs.Tables.{AreCounts, concrete_before}
-use Rattle.rf_names.proofs.counts.concrete_before.Given as goal
-
-abbrev pub invariant-loop-class : goal.invariant-loop-class
-invariant-loop-class l = record {
-  here : l.count ≡ concrete_before l.classes l.class-index;
-  before : AreCounts l.classes l.class-index l.counts.items;
-}
