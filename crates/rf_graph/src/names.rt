@@ -41,7 +41,7 @@ fn class_names(alloc: Global, problem: &Problem) -> Result<Vec<Text>, AllocError
     ensures { IfOk result (λ names. AreNames (length problem.now.classes) (class_name problem.now) names.items) }
 {
     let mut names = Vec::new(alloc);
-    for class in 0..problem.classes.len() {
+    for class in 0..problem.classes.as_slice().len() {
         let mut name = Text::new(alloc);
         push_class(alloc, &mut name, problem, class as u32)?;
         names.push(name)?;

@@ -13,7 +13,6 @@ pub mod Laws
 -- what only the contracts of private functions cite, and lemmas
 pub mod Above
 pub mod Raised
-pub mod Below
 pub mod Cycles
 pub mod Calling
 pub mod Spoken

@@ -15,7 +15,9 @@ mod references;
 mod scopes;
 mod symbols;
 
-use crate::{Assertion, Assertions, Class, ObjectDecl, Predicate, Problem, Reference, Scope};
+use crate::{
+    Assertion, Assertions, Class, Classes, ObjectDecl, Predicate, Problem, Reference, Scope,
+};
 use assertions::are_assertions;
 use classes::are_classes;
 use objects::are_objects;
@@ -82,7 +84,7 @@ impl Problem {
             return Ok(None);
         }
         Ok(Some(Problem {
-            classes: Items::from_vec(classes),
+            classes: Classes::of(alloc, classes)?,
             references: Items::from_vec(references),
             predicates: Items::from_vec(predicates),
             objects: Items::from_vec(objects),

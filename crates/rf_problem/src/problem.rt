@@ -1,12 +1,12 @@
 ghost use Rattle.rf_problem.specs.Valid.{AreAssertions, AreClasses, AreObjects, ArePredicates, AreReferences, AreScopes};
 
-use crate::{Assertions, Class, ObjectDecl, Predicate, Reference, Scope};
+use crate::{Assertions, Classes, ObjectDecl, Predicate, Reference, Scope};
 use rf_text::Items;
 
 /// A problem: what is declared and stated, each number the place of what it stands for.
 #[derive(Debug, Drop)]
 pub struct Problem {
-    pub classes: Items<Class>,
+    pub classes: Classes,
     pub references: Items<Reference>,
     pub predicates: Items<Predicate>,
     /// The named objects, and after them one `C::new` for each class that is neither abstract nor an enum.

@@ -200,7 +200,7 @@ fn count_of(problem: &Problem, kind: SymbolKind) -> usize
     ensures { result ≡ count_of problem.now kind }
 {
     match kind {
-        SymbolKind::Classes => problem.classes.len(),
+        SymbolKind::Classes => problem.classes.as_slice().len(),
         SymbolKind::References => problem.references.len(),
         SymbolKind::Predicates => problem.predicates.len(),
     }

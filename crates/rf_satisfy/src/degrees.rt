@@ -9,7 +9,7 @@ ghost use Rattle.rf_satisfy.specs.Edges.{CountsFrom, first_degree_of};
 use crate::nodes::class_of;
 use crate::tables::zeros;
 use rf_graph::{Graph, Violation};
-use rf_problem::ClassOrder;
+use rf_problem::Problem;
 use std::alloc::{AllocError, Global};
 
 /// Counts the edges of this reference from each node.
@@ -28,37 +28,37 @@ pub fn count_from(graph: &Graph, reference: u32, degrees: &mut [u64])
 
 // Whether a node has as many edges of a reference as it has to.
 fn is_in_range(
-    order: &ClassOrder<'_>,
+    problem: &Problem,
     graph: &Graph,
     reference: u32,
     node: u64,
     degree: u64,
 ) -> bool
-    requires fits { Fits order.now.problem.now graph.now }
-    requires reference { reference < length order.now.problem.now.references }
+    requires fits { Fits problem.now graph.now }
+    requires reference { reference < length problem.now.references }
     requires node { node < size_of graph.now }
     requires degree { degree ≡ degree_of graph.now reference node }
-    ensures { result ≡ is_in_range order.now.problem.now graph.now reference node }
+    ensures { result ≡ is_in_range problem.now graph.now reference node }
 {
-    let reference = order.problem.reference(reference);
-    !order.is_below(class_of(graph, node), reference.source) || reference.range.contains(degree)
+    let reference = problem.reference(reference);
+    !problem.is_below(class_of(graph, node), reference.source) || reference.range.contains(degree)
 }
 
 // The first node that hasn't as many edges of a reference as it has to.
 fn first_outside(
-    order: &ClassOrder<'_>,
+    problem: &Problem,
     graph: &Graph,
     reference: u32,
     degrees: &[u64],
 ) -> Option<Violation>
-    requires fits { Fits order.now.problem.now graph.now }
-    requires reference { reference < length order.now.problem.now.references }
+    requires fits { Fits problem.now graph.now }
+    requires reference { reference < length problem.now.references }
     requires size { length degrees.now ≡ size_of graph.now }
     requires degrees { CountsFrom reference graph.now.edges degrees.now }
-    ensures { result ≡ first_degree_of order.now.problem.now graph.now reference }
+    ensures { result ≡ first_degree_of problem.now graph.now reference }
 {
     for node in 0..graph.nodes.len() as u64 {
-        if !is_in_range(order, graph, reference, node, degrees[node as usize]) {
+        if !is_in_range(problem, graph, reference, node, degrees[node as usize]) {
             return Some(Violation::Degree(reference, node));
         }
     }
@@ -67,16 +67,16 @@ fn first_outside(
 
 pub fn first_degree(
     alloc: Global,
-    order: &ClassOrder<'_>,
+    problem: &Problem,
     graph: &Graph,
 ) -> Result<Option<Violation>, AllocError>
-    requires { Fits order.now.problem.now graph.now }
-    ensures { IfOk result (λ v. v ≡ first_degree order.now.problem.now graph.now) }
+    requires { Fits problem.now graph.now }
+    ensures { IfOk result (λ v. v ≡ first_degree problem.now graph.now) }
 {
     let mut degrees = zeros(alloc, graph.nodes.len())?;
-    for reference in 0..order.problem.references.len() as u32 {
+    for reference in 0..problem.references.len() as u32 {
         count_from(graph, reference, degrees.as_mut_slice());
-        let first = first_outside(order, graph, reference, degrees.as_slice());
+        let first = first_outside(problem, graph, reference, degrees.as_slice());
         if first.is_some() {
             return Ok(first);
         }

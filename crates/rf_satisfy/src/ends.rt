@@ -7,25 +7,25 @@ ghost use Rattle.rf_graph.specs.Graph.{Fits, FitsEdge, size_of};
 use crate::least::earlier;
 use crate::nodes::class_of;
 use rf_graph::{Edge, Graph, Violation};
-use rf_problem::ClassOrder;
+use rf_problem::Problem;
 
-fn fits_ends(order: &ClassOrder<'_>, graph: &Graph, edge: Edge) -> bool
-    requires fits { Fits order.now.problem.now graph.now }
-    requires edge { FitsEdge order.now.problem.now (size_of graph.now) edge }
-    ensures { result ≡ fits_ends order.now.problem.now graph.now edge.reference edge.from edge.to }
+fn fits_ends(problem: &Problem, graph: &Graph, edge: Edge) -> bool
+    requires fits { Fits problem.now graph.now }
+    requires edge { FitsEdge problem.now (size_of graph.now) edge }
+    ensures { result ≡ fits_ends problem.now graph.now edge.reference edge.from edge.to }
 {
-    let reference = order.problem.reference(edge.reference);
-    order.is_below(class_of(graph, edge.from), reference.source)
-        && order.is_below(class_of(graph, edge.to), reference.target)
+    let reference = problem.reference(edge.reference);
+    problem.is_below(class_of(graph, edge.from), reference.source)
+        && problem.is_below(class_of(graph, edge.to), reference.target)
 }
 
-pub fn first_edge(order: &ClassOrder<'_>, graph: &Graph) -> Option<Violation>
-    requires { Fits order.now.problem.now graph.now }
-    ensures { result ≡ first_edge order.now.problem.now graph.now }
+pub fn first_edge(problem: &Problem, graph: &Graph) -> Option<Violation>
+    requires { Fits problem.now graph.now }
+    ensures { result ≡ first_edge problem.now graph.now }
 {
     let mut least = None;
     for edge in graph.edges.as_slice() {
-        if !fits_ends(order, graph, *edge) {
+        if !fits_ends(problem, graph, *edge) {
             least = earlier(least, *edge);
         }
     }

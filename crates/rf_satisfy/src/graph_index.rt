@@ -11,15 +11,14 @@ use crate::edges::EdgeIndex;
 use crate::node_lists::{NodeLists, node_lists};
 use crate::nodes::class_of;
 use rf_graph::Graph;
-use rf_problem::{ClassOrder, Problem};
+use rf_problem::Problem;
 use std::alloc::{AllocError, Global};
 use std::marker::Model;
 
-/// A problem, and a graph that fits it: the order of classes, the edges and the nodes of each object
-/// are found fast.
+/// A problem, and a graph that fits it: the edges and the nodes of each object are found fast.
 #[derive(Drop)]
 pub struct GraphIndex<'a> {
-    order: &'a ClassOrder<'a>,
+    problem: &'a Problem,
     edges: &'a EdgeIndex<'a>,
     nodes: NodeLists,
 }
@@ -30,25 +29,25 @@ impl<'a> Model for GraphIndex<'a> {
 
     ghost Value = { Indexed };
 
-    ghost view = { λ v. record { problem = v.order.now.problem.now; graph = v.edges.now.graph.now } };
+    ghost view = { λ v. record { problem = v.problem.now; graph = v.edges.now.graph.now } };
 
     ghost invariant = { λ v.
-        IsListed v.order.now.problem.now v.edges.now.graph.now v.nodes.all.items v.nodes.rows.items };
+        IsListed v.problem.now v.edges.now.graph.now v.nodes.all.items v.nodes.rows.items };
 }
 
 impl<'a> GraphIndex<'a> {
     pub fn new(
         alloc: Global,
-        order: &'a ClassOrder<'a>,
+        problem: &'a Problem,
         edges: &'a EdgeIndex<'a>,
     ) -> Result<GraphIndex<'a>, AllocError>
-        requires { Fits order.now.problem.now edges.now.graph.now }
+        requires { Fits problem.now edges.now.graph.now }
         ensures { IfOk result (λ index.
-            index ≡ record { problem = order.now.problem.now; graph = edges.now.graph.now }) }
+            index ≡ record { problem = problem.now; graph = edges.now.graph.now }) }
     {
-        let nodes = node_lists(alloc, order.problem.objects.len(), edges.graph)?;
+        let nodes = node_lists(alloc, problem.objects.len(), edges.graph)?;
         Ok(GraphIndex {
-            order,
+            problem,
             edges,
             nodes,
         })
@@ -57,7 +56,7 @@ impl<'a> GraphIndex<'a> {
     pub fn problem(&self) -> &'a Problem
         ensures { result.now ≡ self.now.problem }
     {
-        self.order.problem
+        self.problem
     }
 
     pub fn graph(&self) -> &'a Graph
@@ -79,7 +78,7 @@ impl<'a> GraphIndex<'a> {
         ensures count { result ≡ length self.now.problem.objects }
         ensures origins { (x : ℕ) → x < size_of self.now.graph → origin_of self.now.graph x < result }
     {
-        self.order.problem.objects.len() as u64
+        self.problem.objects.len() as u64
     }
 
     /// Whether node `x` has class `k`, itself or by one that it extends.
@@ -87,7 +86,7 @@ impl<'a> GraphIndex<'a> {
         requires { k < length self.now.problem.classes }
         ensures { result ≡ is_below self.now.problem.classes (class_of self.now.graph x) k }
     {
-        self.order.is_below(class_of(self.graph(), x), k)
+        self.problem.is_below(class_of(self.graph(), x), k)
     }
 
     /// The nodes that come from an object that an argument matches, in ascending order.

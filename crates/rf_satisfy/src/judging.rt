@@ -20,70 +20,70 @@ use crate::nodes::first_class;
 use crate::objects::first_object;
 use crate::scopes::first_scope;
 use rf_graph::{Graph, Verdict, Violation};
-use rf_problem::{ClassOrder, Problem};
+use rf_problem::Problem;
 use std::alloc::{AllocError, Global};
 
 // The first violation that a node or an edge makes by itself.
-fn first_alone(order: &ClassOrder<'_>, edge_index: &EdgeIndex<'_>) -> Option<Violation>
-    requires { Fits order.now.problem.now edge_index.now.graph.now }
-    ensures { result ≡ option_or (first_class order.now.problem.now edge_index.now.graph.now)
-        (option_or (first_edge order.now.problem.now edge_index.now.graph.now)
-        (first_opposite order.now.problem.now edge_index.now.graph.now)) }
+fn first_alone(problem: &Problem, edge_index: &EdgeIndex<'_>) -> Option<Violation>
+    requires { Fits problem.now edge_index.now.graph.now }
+    ensures { result ≡ option_or (first_class problem.now edge_index.now.graph.now)
+        (option_or (first_edge problem.now edge_index.now.graph.now)
+        (first_opposite problem.now edge_index.now.graph.now)) }
 {
-    let class = first_class(order.problem, edge_index.graph);
+    let class = first_class(problem, edge_index.graph);
     if class.is_some() {
         return class;
     }
-    let edge = first_edge(order, edge_index.graph);
+    let edge = first_edge(problem, edge_index.graph);
     if edge.is_some() {
         return edge;
     }
-    first_opposite(order.problem, edge_index)
+    first_opposite(problem, edge_index)
 }
 
 // The first violation of how many edges nodes have, and of what contains what.
 fn first_of_edges(
     alloc: Global,
-    order: &ClassOrder<'_>,
+    problem: &Problem,
     graph: &Graph,
 ) -> Result<Option<Violation>, AllocError>
-    requires { Fits order.now.problem.now graph.now }
-    ensures { IfOk result (λ v. v ≡ option_or (first_degree order.now.problem.now graph.now)
-        (option_or (first_containers order.now.problem.now graph.now)
-        (first_cycle order.now.problem.now graph.now))) }
+    requires { Fits problem.now graph.now }
+    ensures { IfOk result (λ v. v ≡ option_or (first_degree problem.now graph.now)
+        (option_or (first_containers problem.now graph.now)
+        (first_cycle problem.now graph.now))) }
 {
-    let degree = first_degree(alloc, order, graph)?;
+    let degree = first_degree(alloc, problem, graph)?;
     if degree.is_some() {
         return Ok(degree);
     }
-    let containers = first_containers(alloc, order.problem, graph)?;
+    let containers = first_containers(alloc, problem, graph)?;
     if containers.is_some() {
         return Ok(containers);
     }
-    first_cycle(alloc, order.problem, graph)
+    first_cycle(alloc, problem, graph)
 }
 
 // The first violation of what is stated of objects, of facts and of scopes.
 fn first_stated(
     alloc: Global,
-    order: &ClassOrder<'_>,
+    problem: &Problem,
     edge_index: &EdgeIndex<'_>,
 ) -> Result<Option<Violation>, AllocError>
-    requires { Fits order.now.problem.now edge_index.now.graph.now }
-    ensures { IfOk result (λ v. v ≡ option_or (first_object order.now.problem.now edge_index.now.graph.now)
-        (option_or (first_asserted order.now.problem.now edge_index.now.graph.now)
-        (first_scope order.now.problem.now edge_index.now.graph.now))) }
+    requires { Fits problem.now edge_index.now.graph.now }
+    ensures { IfOk result (λ v. v ≡ option_or (first_object problem.now edge_index.now.graph.now)
+        (option_or (first_asserted problem.now edge_index.now.graph.now)
+        (first_scope problem.now edge_index.now.graph.now))) }
 {
-    let object = first_object(alloc, order.problem, edge_index.graph)?;
+    let object = first_object(alloc, problem, edge_index.graph)?;
     if object.is_some() {
         return Ok(object);
     }
-    let index = GraphIndex::new(alloc, order, edge_index)?;
+    let index = GraphIndex::new(alloc, problem, edge_index)?;
     let asserted = first_asserted(alloc, &index)?;
     if asserted.is_some() {
         return Ok(asserted);
     }
-    Ok(first_scope(order, edge_index.graph))
+    Ok(first_scope(problem, edge_index.graph))
 }
 
 fn first_violation(
@@ -94,17 +94,16 @@ fn first_violation(
     requires { Fits problem.now graph.now }
     ensures { IfOk result (λ v. v ≡ first_violation problem.now graph.now) }
 {
-    let order = problem.class_order(alloc)?;
     let edge_index = EdgeIndex::new(alloc, graph)?;
-    let alone = first_alone(&order, &edge_index);
+    let alone = first_alone(problem, &edge_index);
     if alone.is_some() {
         return Ok(alone);
     }
-    let edges = first_of_edges(alloc, &order, graph)?;
+    let edges = first_of_edges(alloc, problem, graph)?;
     if edges.is_some() {
         return Ok(edges);
     }
-    first_stated(alloc, &order, &edge_index)
+    first_stated(alloc, problem, &edge_index)
 }
 
 /// Whether a graph that fits a problem satisfies it, and else the first of its violations.

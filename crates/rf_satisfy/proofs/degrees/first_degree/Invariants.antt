@@ -6,4 +6,4 @@ use Rattle.rf_satisfy.proofs.degrees.first_degree.Given as goal
 
 abbrev pub invariant-loop-reference : goal.invariant-loop-reference
 invariant-loop-reference l =
-    (length l.degrees.items ≡ size_of l.graph) × (first_below l.reference (first_degree_of l.order.problem.now l.graph) ≡ None)
+    (length l.degrees.items ≡ size_of l.graph) × (first_below l.reference (first_degree_of l.problem l.graph) ≡ None)

@@ -6,4 +6,4 @@ use Rattle.rf_satisfy.proofs.degrees.first_outside.Given as goal
 
 abbrev pub invariant-loop-node : goal.invariant-loop-node
 invariant-loop-node l =
-    first_below l.node (λ x. when (not (is_in_range l.order.problem.now l.graph l.reference x)) (Degree l.reference x)) ≡ None
+    first_below l.node (λ x. when (not (is_in_range l.problem l.graph l.reference x)) (Degree l.reference x)) ≡ None

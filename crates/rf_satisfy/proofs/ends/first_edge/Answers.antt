@@ -7,7 +7,7 @@ use Rattle.rf_satisfy.proofs.ends.first_edge.Invariants.{is_misplaced}
 
 pub loop-edge-preserved : goal.loop-edge-preserved
 loop-edge-preserved c =
-    IsFirstFailing-more (λ e. is_misplaced c.args.order.now.problem.now c.args.graph.now e.reference e.from e.to) c.as_slice-edge-items.result.now c.loop-edge.edge-index
+    IsFirstFailing-more (λ e. is_misplaced c.args.problem.now c.args.graph.now e.reference e.from e.to) c.as_slice-edge-items.result.now c.loop-edge.edge-index
     record { reference = 0; from = 0; to = 0 } c.loop-edge.least c.if-not-fits_ends.least c.loop-edge-test.true c.loop-edge.invariant
     (elim c.if-not-fits_ends.branch [
       | then-not-fits_ends w ↦ inl (sym (ap not w.if-not-fits_ends.ensures), w.least-is ∙ w.earlier-least.ensures)
@@ -16,12 +16,12 @@ loop-edge-preserved c =
 
 pub returns-in-Some : goal.returns-in-Some
 returns-in-Some c =
-    first_edge_of-least c.args.order.now.problem.now c.args.graph.now c.requires (is_misplaced c.args.order.now.problem.now c.args.graph.now) Edge (Some c.in-Some.edge)
-    (IsFirstFailing-ended (λ e. is_misplaced c.args.order.now.problem.now c.args.graph.now e.reference e.from e.to) c.as_slice-edge-items.result.now c.args.graph.now.edges
+    first_edge_of-least c.args.problem.now c.args.graph.now c.requires (is_misplaced c.args.problem.now c.args.graph.now) Edge (Some c.in-Some.edge)
+    (IsFirstFailing-ended (λ e. is_misplaced c.args.problem.now c.args.graph.now e.reference e.from e.to) c.as_slice-edge-items.result.now c.args.graph.now.edges
     c.loop-edge.edge-index c.loop-edge.least (Some c.in-Some.edge) c.loop-edge-test.false c.as_slice-edge-items.ensures c.in-Some.is c.loop-edge.invariant)
 
 pub returns-in-None : goal.returns-in-None
 returns-in-None c =
-    first_edge_of-least c.args.order.now.problem.now c.args.graph.now c.requires (is_misplaced c.args.order.now.problem.now c.args.graph.now) Edge None
-    (IsFirstFailing-ended (λ e. is_misplaced c.args.order.now.problem.now c.args.graph.now e.reference e.from e.to) c.as_slice-edge-items.result.now c.args.graph.now.edges
+    first_edge_of-least c.args.problem.now c.args.graph.now c.requires (is_misplaced c.args.problem.now c.args.graph.now) Edge None
+    (IsFirstFailing-ended (λ e. is_misplaced c.args.problem.now c.args.graph.now e.reference e.from e.to) c.as_slice-edge-items.result.now c.args.graph.now.edges
     c.loop-edge.edge-index c.loop-edge.least None c.loop-edge-test.false c.as_slice-edge-items.ensures c.in-None.is c.loop-edge.invariant)

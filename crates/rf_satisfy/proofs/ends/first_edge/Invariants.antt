@@ -10,4 +10,4 @@ is_misplaced p g r x y = not (fits_ends p g r x y)
 
 abbrev pub invariant-loop-edge : goal.invariant-loop-edge
 invariant-loop-edge l =
-    IsFirstFailing (λ e. is_misplaced l.order.problem.now l.graph e.reference e.from e.to) (take l.edge-index l.edge-items) l.least
+    IsFirstFailing (λ e. is_misplaced l.problem l.graph e.reference e.from e.to) (take l.edge-index l.edge-items) l.least

@@ -6,5 +6,5 @@ use Rattle.rf_satisfy.proofs.scopes.count_nodes.Goals as goal
 
 pub overflow_add-count : goal.overflow_add-count
 overflow_add-count c =
-    let bound = count_below-le_bound c.loop-node.node (is_counted c.args.order.now.problem.now c.args.graph.now (scope_at c.args.order.now.problem.now.scopes c.args.scope)) in
+    let bound = count_below-le_bound c.loop-node.node (is_counted c.args.problem.now c.args.graph.now (scope_at c.args.problem.now.scopes c.args.scope)) in
     omega (arith, c.loop-node.invariant)

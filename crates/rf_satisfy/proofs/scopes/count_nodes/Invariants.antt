@@ -5,4 +5,4 @@ use Rattle.rf_problem.specs.Parts.{scope_at}
 use Rattle.rf_satisfy.proofs.scopes.count_nodes.Given as goal
 
 abbrev pub invariant-loop-node : goal.invariant-loop-node
-invariant-loop-node l = l.count ≡ count_below l.node (is_counted l.order.problem.now l.graph (scope_at l.order.problem.now.scopes l.scope))
+invariant-loop-node l = l.count ≡ count_below l.node (is_counted l.problem l.graph (scope_at l.problem.scopes l.scope))

@@ -1,5 +1,0 @@
-use Rattle.rf_problem.proofs.AboveLemmas.{IsRaised}
-use Rattle.rf_problem.proofs.problem.Problem.raise.Given as goal
-
-abbrev pub invariant-loop-class : goal.invariant-loop-class
-invariant-loop-class l = IsRaised l.self.classes l.initial.rows l.rows l.class l.grew
