@@ -27,13 +27,7 @@ pub fn count_from(graph: &Graph, reference: u32, degrees: &mut [u64])
 }
 
 // Whether a node has as many edges of a reference as it has to.
-fn is_in_range(
-    problem: &Problem,
-    graph: &Graph,
-    reference: u32,
-    node: u64,
-    degree: u64,
-) -> bool
+fn is_in_range(problem: &Problem, graph: &Graph, reference: u32, node: u64, degree: u64) -> bool
     requires fits { Fits problem.now graph.now }
     requires reference { reference < length problem.now.references }
     requires node { node < size_of graph.now }
