@@ -40,6 +40,18 @@ truth_of false false = False
 truth_of false true = Unknown
 truth_of true false = Error
 
+-- that two facts both hold: it has to be so where both have to, and can where both can
+abbrev pub conjunction : Truth → Truth → Truth
+conjunction a b = truth_of (must a && must b) (may a && may b)
+
+-- that one of them does at least
+abbrev pub disjunction : Truth → Truth → Truth
+disjunction a b = truth_of (must a || must b) (may a || may b)
+
+-- that a fact doesn't hold: it has to be so where the fact can't, and can where it doesn't have to
+abbrev pub negation : Truth → Truth
+negation a = truth_of (not (may a)) (not (must a))
+
 -- whether a fact that holds, or doesn't, keeps what is known of it: true where it holds, false where it
 -- doesn't, unknown always, and error never
 abbrev pub keeps : Truth → Bool → Bool

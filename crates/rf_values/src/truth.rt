@@ -1,7 +1,7 @@
 //! What is known of a fact.
 
 ghost use Rattle.std.specs.Prelude.{◌≡◌};
-ghost use Rattle.rf_values.specs.Truth.{merge, must, may, below, keeps};
+ghost use Rattle.rf_values.specs.Truth.{merge, must, may, below, keeps, truth_of, conjunction, disjunction, negation};
 ghost use Rattle.rf_values.specs.Truth.{BelowIsReflexive, BelowIsAntisymmetric, BelowIsTransitive, UnknownIsLeast, ErrorIsGreatest};
 ghost use Rattle.rf_values.specs.Truth.{MergeIsLeastAbove, MergeIsAssociative, MergeIsCommutative, MergeIsIdempotent, UnknownIsNeutral, ErrorAbsorbs, MergeJoinsPairs};
 ghost use Rattle.rf_values.specs.Truth.{TruthIsItsPair, PairIsItsTruth};
@@ -43,6 +43,39 @@ impl Truth {
         ensures { result ≡ may self }
     {
         matches!(self, Truth::True | Truth::Unknown)
+    }
+
+    /// The truth of a fact that has to hold or not, and can or can't.
+    pub fn of(must: bool, may: bool) -> Truth
+        ensures { result ≡ truth_of must may }
+    {
+        match (must, may) {
+            (true, true) => Truth::True,
+            (false, false) => Truth::False,
+            (false, true) => Truth::Unknown,
+            (true, false) => Truth::Error,
+        }
+    }
+
+    /// What is known of two facts together.
+    pub fn and(self, other: Truth) -> Truth
+        ensures { result ≡ conjunction self other }
+    {
+        Truth::of(self.must() && other.must(), self.may() && other.may())
+    }
+
+    /// What is known of one of two facts holding at least.
+    pub fn or(self, other: Truth) -> Truth
+        ensures { result ≡ disjunction self other }
+    {
+        Truth::of(self.must() || other.must(), self.may() || other.may())
+    }
+
+    /// What is known of a fact not holding.
+    pub fn negate(self) -> Truth
+        ensures { result ≡ negation self }
+    {
+        Truth::of(!self.may(), !self.must())
     }
 
     /// Whether `other` knows all that this does.
