@@ -1,6 +1,7 @@
 -- Private: no public contract cites this.
 -- What marking the vertices to which one vertex leads does to the marks and to the stack.
-use Rattle.std.specs.Prelude.{◌≡◌, ℕ, ◌+◌, if◌then◌else◌, [], ◌∷◌, ◌<◌, ◌⊎◌, ◌||◌, Bool, true, false, List, length, slice_index_or, Contains}
+use denote.Bor.{Bor}
+use Rattle.std.specs.Prelude.{◌≡◌, ℕ, ◌+◌, if◌then◌else◌, [], ◌∷◌, ◌<◌, ◌⊎◌, ◌||◌, Bool, true, false, Option, None, Some, List, length, slice_index_or, Contains}
 
 -- how many vertices are not marked
 abbrev pub unmarked_count : List Bool → ℕ
@@ -17,3 +18,8 @@ pub record Marking (size : ℕ) (row : ℕ → Bool) (old_marks : List Bool) (ol
       → slice_index_or marks k false ≡ true → Contains stack k
   pub only : (k : ℕ) → Contains stack k → Contains old_stack k ⊎ ((k < size) × (row k ≡ true))
   pub balance : unmarked_count marks + length stack ≡ unmarked_count old_marks + length old_stack
+
+-- whether a walk may pass through vertex c by these marks; where there are none it may through each
+abbrev pub passes : Option (Bor (List Bool)) → ℕ → Bool
+passes None c = true
+passes (Some marks) c = slice_index_or marks.now c false

@@ -4,7 +4,7 @@ ghost use Rattle.std.specs.Prelude.{◌≡◌, ◌==◌, ℕ, ◌<◌, ◌&&◌,
 ghost use Rattle.std.specs.List.{list_any};
 ghost use Rattle.rf_finite.specs.Walks.{walk_below};
 ghost use Rattle.rf_closure.specs.Along.{leads};
-ghost use Rattle.rf_closure.specs.Marking.{Marking};
+ghost use Rattle.rf_closure.specs.Marking.{Marking, passes};
 
 use crate::search::no_marks;
 use std::alloc::{AllocError, Global};
@@ -55,6 +55,52 @@ fn expand_along(
     mark_listed(&successors[c as usize], marks, stack)
 }
 
+/// Whether a walk may pass through vertex `c`. Where nothing is said it may through each.
+fn is_open(through: Option<&[bool]>, c: u64) -> bool
+    ensures { result ≡ passes through.entry c }
+{
+    match through {
+        None => true,
+        Some(marks) => match marks.get(c as usize) {
+            Some(mark) => *mark,
+            None => false,
+        },
+    }
+}
+
+/// Whether vertex `c` is still to be expanded when it is found: the start is expanded already, and
+/// nothing is found through a vertex that no walk may pass through.
+fn is_passed(through: Option<&[bool]>, from: u64, c: u64) -> bool
+    ensures { result ≡ (not (c == from) && passes through.entry c) }
+{
+    c != from && is_open(through, c)
+}
+
+/// Marks each vertex to which a walk of one or more steps leads from `from`.
+fn search(
+    alloc: Global,
+    successors: &[Vec<u64>],
+    through: Option<&[bool]>,
+    from: u64,
+) -> Result<Vec<bool>, AllocError>
+    requires { from < length successors.now }
+    ensures len { IfOk result (λ marks. vec_len marks ≡ length successors.now) }
+    ensures value { IfOk result (λ marks. (b : ℕ) → b < length successors.now
+        → slice_index_or marks.items b false
+        ≡ walk_below (leads (map (λ list. list.items) successors.now)) (passes through.entry)
+        (length successors.now) from b) }
+{
+    let mut marks = no_marks(alloc, successors.len() as u64)?;
+    let mut stack = Vec::new(alloc);
+    expand_along(successors, from, &mut marks, &mut stack)?;
+    while let Some(c) = stack.pop() {
+        if is_passed(through, from, c) {
+            expand_along(successors, c, &mut marks, &mut stack)?;
+        }
+    }
+    Ok(marks)
+}
+
 /// Marks each vertex to which a walk of one or more steps leads from `from`, where each vertex leads
 /// to the vertices of its list. So `from` itself is marked only where a walk leads back to it. A
 /// number that isn't a vertex counts for nothing.
@@ -76,13 +122,22 @@ pub fn reach_along(
         ≡ walk_below (leads (map (λ list. list.items) successors.now)) (λ _. true)
         (length successors.now) from b) }
 {
-    let mut marks = no_marks(alloc, successors.len() as u64)?;
-    let mut stack = Vec::new(alloc);
-    expand_along(successors, from, &mut marks, &mut stack)?;
-    while let Some(c) = stack.pop() {
-        if c != from {
-            expand_along(successors, c, &mut marks, &mut stack)?;
-        }
-    }
-    Ok(marks)
+    search(alloc, successors, None, from)
+}
+
+/// The same where a walk may pass only through the vertices that are marked.
+pub fn reach_through(
+    alloc: Global,
+    successors: &[Vec<u64>],
+    through: &[bool],
+    from: u64,
+) -> Result<Vec<bool>, AllocError>
+    requires { from < length successors.now }
+    ensures len { IfOk result (λ marks. vec_len marks ≡ length successors.now) }
+    ensures value { IfOk result (λ marks. (b : ℕ) → b < length successors.now
+        → slice_index_or marks.items b false
+        ≡ walk_below (leads (map (λ list. list.items) successors.now)) (λ c. slice_index_or through.now c false)
+        (length successors.now) from b) }
+{
+    search(alloc, successors, Some(through), from)
 }

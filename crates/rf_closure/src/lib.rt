@@ -6,6 +6,6 @@ mod along;
 mod laws;
 mod search;
 
-pub use along::reach_along;
+pub use along::{reach_along, reach_through};
 pub use laws::{join_law, monotone_law, no_repeats_law, reverse_law, split_law};
 pub use search::{Edges, reach};
