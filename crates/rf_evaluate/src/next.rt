@@ -1,0 +1,173 @@
+//! Which variable gets its element next, and which elements come into question for it.
+
+ghost use Rattle.std.specs.Prelude.{◌≡◌, ◌<◌, ℕ, IfSome, None, false, slice_index_or};
+ghost use Rattle.rf_evaluate.specs.Evaluating.{AreCandidates, IsSoundBody};
+
+use crate::assignment::element_of;
+use crate::elements::Elements;
+use crate::knowledge::Knowledge;
+use crate::stage::{Body, Stage};
+use rf_problem::{Literal, Symbol, Term};
+
+/// A variable, and the elements outside of which the literals that are left can't hold.
+#[derive(Clone, Copy)]
+pub struct Next<'k> {
+    pub variable: usize,
+    pub elements: Elements<'k>,
+}
+
+/// The only element that comes from an atom, where one alone is listed.
+fn only_element<K: Knowledge>(known: &K, atom: u64) -> Option<u64> {
+    match known.from_object(atom) {
+        Elements::Below(_) => None,
+        Elements::Listed(items) => {
+            if items.len() == 1 {
+                Some(items[0])
+            } else {
+                None
+            }
+        }
+    }
+}
+
+/// The element that a term stands for, if it is known.
+fn anchor<K: Knowledge>(known: &K, stage: &Stage, term: Term) -> Option<u64> {
+    match term {
+        Term::Var(v) => match stage.unassigned.get(v as usize) {
+            Some(is_unassigned) => {
+                if *is_unassigned {
+                    None
+                } else {
+                    Some(element_of(stage.elements, v))
+                }
+            }
+            None => None,
+        },
+        Term::Atom(atom) => only_element(known, atom),
+    }
+}
+
+/// The number of a variable that is to get its element.
+fn unassigned_variable(stage: &Stage, term: Term, end: usize) -> Option<usize> {
+    match term {
+        Term::Var(v) => match stage.unassigned.get(v as usize) {
+            Some(is_unassigned) => {
+                if *is_unassigned && (v as usize) < end {
+                    Some(v as usize)
+                } else {
+                    None
+                }
+            }
+            None => None,
+        },
+        Term::Atom(_) => None,
+    }
+}
+
+/// The elements, where they are listed.
+fn listed<'k>(variable: usize, elements: Elements<'k>) -> Option<Next<'k>> {
+    match elements {
+        Elements::Below(_) => None,
+        Elements::Listed(_) => Some(Next { variable, elements }),
+    }
+}
+
+/// A variable below `end` at one end of an edge of a reference, whose other end is known.
+fn along_edge<'k, K: Knowledge>(
+    known: &'k K,
+    stage: &Stage,
+    reference: u32,
+    a: Term,
+    b: Term,
+    end: usize,
+) -> Option<Next<'k>> {
+    if let Some(v) = unassigned_variable(stage, b, end) {
+        let x = anchor(known, stage, a)?;
+        return listed(v, known.ends_from(reference, x));
+    }
+    let v = unassigned_variable(stage, a, end)?;
+    let y = anchor(known, stage, b)?;
+    listed(v, known.ends_into(reference, y))
+}
+
+/// The same for a literal, where it asks for an edge.
+fn along_literal<'k, K: Knowledge>(
+    known: &'k K,
+    body: &Body<'_>,
+    stage: &Stage,
+    i: usize,
+    end: usize,
+) -> Option<Next<'k>> {
+    match &body.literals[i] {
+        Literal::Call {
+            negated,
+            closure,
+            symbol,
+            args,
+        } => {
+            if *closure || (*negated && !body.is_inner) || args.len() != 2 {
+                return None;
+            }
+            match symbol {
+                Symbol::Reference(r) => along_edge(known, stage, *r, args[0], args[1], end),
+                _ => None,
+            }
+        }
+        _ => None,
+    }
+}
+
+/// A variable below `end` for which some literal lists elements.
+fn listed_below<'k, K: Knowledge>(
+    known: &'k K,
+    body: &Body<'_>,
+    stage: &Stage,
+    end: usize,
+) -> Option<Next<'k>> {
+    for i in 0..body.literals.len() {
+        if stage.pending[i] {
+            let next = along_literal(known, body, stage, i, end);
+            if next.is_some() {
+                return next;
+            }
+        }
+    }
+    None
+}
+
+/// The first variable that is to get its element.
+fn first_unassigned(stage: &Stage) -> Option<usize> {
+    for v in 0..8 {
+        if stage.unassigned[v] {
+            return Some(v);
+        }
+    }
+    None
+}
+
+/// The variable that gets its element next, if there is one: a parameter for which some literal lists
+/// elements, else a variable for which one does, else the first.
+pub fn next_variable<'k, K: Knowledge>(
+    known: &'k K,
+    body: &Body<'_>,
+    stage: &Stage,
+    arity: usize,
+) -> Option<Next<'k>>
+    requires { IsSoundBody (K.known known.now) body.now }
+    ensures candidates { IfSome result (λ next. AreCandidates (K.known known.now) body.now stage.now next.variable next.elements) }
+    ensures none { result ≡ None → (v : ℕ) → v < 8 → slice_index_or stage.now.unassigned v false ≡ false }
+{
+    let parameter = listed_below(known, body, stage, arity);
+    if parameter.is_some() {
+        return parameter;
+    }
+    let variable = listed_below(known, body, stage, 8);
+    if variable.is_some() {
+        return variable;
+    }
+    let variable = first_unassigned(stage)?;
+    Some(Next {
+        variable,
+        elements: Elements::Below(known.size()),
+    })
+}
