@@ -1,1 +1,5 @@
 pub mod Completing
+pub mod Candidates
+pub mod InBoth
+pub mod Pending
+pub mod Unassigned
