@@ -3,3 +3,4 @@ pub mod Candidates
 pub mod InBoth
 pub mod Pending
 pub mod Unassigned
+pub mod StageLemmas
