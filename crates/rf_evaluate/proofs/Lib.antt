@@ -3,4 +3,5 @@ pub mod Candidates
 pub mod InBoth
 pub mod Pending
 pub mod Unassigned
+pub mod Cells
 pub mod StageLemmas

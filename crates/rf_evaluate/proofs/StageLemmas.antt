@@ -7,30 +7,6 @@ use Rattle.std.proofs.lemmas.List.{get_or_past, length-set}
 use Rattle.rf_problem.specs.Reading.{is_entry}
 use Rattle.rf_problem.specs.Valid.{is_free}
 
--- the first i of some cells are marked as told, the others are not
-pub record AreMarked (size : ℕ) (told : ℕ → Bool) (cells : List Bool) (i : ℕ) : Type 0 where
-  pub len : length cells ≡ size
-  pub taken : (k : ℕ) → k < i → get_or cells k false ≡ told k
-  pub rest : (k : ℕ) → i ≤ k → get_or cells k false ≡ false
-
-pub AreMarked-more : (size : ℕ) (told : ℕ → Bool) (cells : List Bool) (i : ℕ) (mark : Bool) → AreMarked size told cells i → i < size → mark ≡ told i
-    → AreMarked size told (set cells i mark) (i + 1)
-AreMarked-more size told cells i mark m l e = record {
-  len = length-set cells i mark ∙ m.len;
-  taken = λ k lk. elim (cases_order k i) [
-    | inl s ↦ rw s (get_or-set_same cells i mark false (omega (arith, m.len)) ∙ e)
-    | inr s ↦ elim s [ inl lt ↦ get_or-set_other cells i k mark false (λ q. omega arith) ∙ m.taken k lt | inr gt ↦ absurd (omega arith) ]
-  ];
-  rest = λ k lk. get_or-set_other cells i k mark false (λ q. omega arith) ∙ m.rest k (omega arith);
-}
-
-pub AreMarked-done : (size : ℕ) (told : ℕ → Bool) (cells : List Bool) (i : ℕ) → AreMarked size told cells i → ((k : ℕ) → i ≤ k → told k ≡ false)
-    → (k : ℕ) → get_or cells k false ≡ told k
-AreMarked-done size told cells i m none k = elim (cases_lt k i) [
-  | inl l ↦ m.taken k l
-  | inr g ↦ m.rest k g ∙ sym (none k g)
-]
-
 -- which variables range over a clause after its parameters
 abbrev pub ranges_after : ℕ → List (Option ℕ) → ℕ → Bool
 ranges_after arity variables v = nat_le arity v && (nat_lt v (length variables) && is_free (get_or variables v None))
