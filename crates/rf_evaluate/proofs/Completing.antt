@@ -28,7 +28,7 @@ use Rattle.rf_evaluate.proofs.Pending.{pending_true-all, pending_true-none, pend
 use Rattle.rf_evaluate.proofs.Unassigned.{literal-same, some_unassigned-and, some_unassigned-chosen, some_unassigned-drop, some_unassigned-entries, some_unassigned-none}
 
 -- a literal names the same variables as it stands in a body
-names_unassigned-standing : (unassigned : List Bool) (is_inner : Bool) (l : Literal) → names_unassigned unassigned (standing is_inner l) ≡ names_unassigned unassigned l
+pub names_unassigned-standing : (unassigned : List Bool) (is_inner : Bool) (l : Literal) → names_unassigned unassigned (standing is_inner l) ≡ names_unassigned unassigned l
 names_unassigned-standing unassigned false l = refl
 names_unassigned-standing unassigned true (Call negated closure symbol args) = refl
 names_unassigned-standing unassigned true (Same a b) = refl
@@ -59,11 +59,11 @@ slice_index-set cells v x l = λ j u. each u j
       | inr s ↦ rw s (get_or-set_other cells v u x 0 (λ e. both_ways (u == v) s (eq-eqb u v e)))
     ]
 
--- a variable that is unassigned is among those that may be
-unassigned-within : (unassigned : List Bool) (v : ℕ) → slice_index_or unassigned v false ≡ true → v < length unassigned
-unassigned-within unassigned v own = elim (cases_lt v (length unassigned)) [
+-- a number that is marked has a mark
+pub marked-within : (marks : List Bool) (v : ℕ) → slice_index_or marks v false ≡ true → v < length marks
+marked-within marks v own = elim (cases_lt v (length marks)) [
   | inl l ↦ l
-  | inr g ↦ absurd (true≢false (sym own ∙ get_or_past unassigned v false g))
+  | inr g ↦ absurd (true≢false (sym own ∙ get_or_past marks v false g))
 ]
 
 -- a literal that names no unassigned variable is taken out
@@ -96,7 +96,7 @@ completed-chosen k b s v few own =
     ∙ some_truth-same k.size _ (completed_with k b s v) (λ x l. sym (conjunction-pair (k.presence x) _ _))
   where
     within : v < length s.elements
-    within = let l = unassigned-within s.unassigned v own in omega arith
+    within = let l = marked-within s.unassigned v own in omega arith
 
     each : (here inside : Reading) → completes k b s here inside ≡ some_below here.size (λ x. here.present x && completes k b (with_element s v x) here inside)
     each here inside =

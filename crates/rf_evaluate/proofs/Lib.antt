@@ -4,4 +4,5 @@ pub mod InBoth
 pub mod Pending
 pub mod Unassigned
 pub mod Cells
+pub mod Narrowing
 pub mod StageLemmas

@@ -1,9 +1,9 @@
 -- Cells that a loop marks one by one, and which variables literals name.
-use Rattle.std.proofs.Common.{◌≡◌, ℕ, zero, suc, ◌+◌, ◌<◌, ◌≤◌, Bool, true, false, not, ◌&&◌, ◌||◌, ◌==◌, Option, None, Some, List, [], ◌∷◌, length, get_or, set, slice_index_or, refl, sym, ap, ◌∙◌, subst, inl, inr, arith, true≢false, get_or-set_same, get_or-set_other}
+use Rattle.std.proofs.Common.{◌≡◌, ℕ, zero, suc, ◌<◌, ◌≤◌, Bool, true, false, not, ◌&&◌, ◌==◌, Option, None, List, [], ◌∷◌, length, get_or, set, refl, ap, ◌∙◌, inl, inr, get_or-set_same, get_or-set_other}
 use Rattle.std.specs.List.{list_all}
-use Rattle.std.specs.Prelude.{nat_le, nat_lt, slice_get}
-use Rattle.std.proofs.lemmas.Bool.{and_parts, not-true, both_ways, cases_Bool, cases_lt, cases_order, eq-eqb, eqb-true, le-ltb, lt-ltb, le-leb, lt-leb, leb-true}
-use Rattle.std.proofs.lemmas.List.{get_or_past, length-set}
+use Rattle.std.specs.Prelude.{nat_le, nat_lt}
+use Rattle.std.proofs.lemmas.Bool.{and_parts, not-true, both_ways, cases_Bool, eq-eqb, eqb-true, le-ltb, lt-ltb, le-leb, lt-leb}
+use Rattle.std.proofs.lemmas.List.{get_or_past}
 use Rattle.rf_problem.specs.Reading.{is_entry}
 use Rattle.rf_problem.specs.Valid.{is_free}
 

@@ -1,4 +1,4 @@
-use Rattle.std.proofs.Common.{arith, refl, replicate, false}
+use Rattle.std.proofs.Common.{refl, replicate, false}
 use Rattle.rf_evaluate.proofs.StageLemmas.{marked-alone}
 use Rattle.rf_evaluate.proofs.stage.Stage.inside.Goals as goal
 
