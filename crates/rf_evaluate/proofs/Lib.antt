@@ -5,4 +5,3 @@ pub mod Pending
 pub mod Unassigned
 pub mod Cells
 pub mod Narrowing
-pub mod StageLemmas
