@@ -1,1 +1,3 @@
 pub mod Completing
+pub mod StepLemmas
+pub mod WalkLemmas
