@@ -34,6 +34,7 @@ abbrev pub side_or : Side → Option Side → Side
 side_or side None = side
 side_or side (Some other) = other
 
+-- the marks on the other side, where they differ
 abbrev pub marks_or : List Bool → Option (Vec Bool Global) → List Bool
 marks_or marks None = marks
 marks_or marks (Some others) = others.items

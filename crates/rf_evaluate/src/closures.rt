@@ -127,8 +127,9 @@ impl Walks {
 
     /// Keeps the marks of one more element.
     fn keep(&mut self, alloc: Global, from: u64, marks: Marks) -> Result<(), AllocError>
-        ensures { (k : Known) (symbol : Symbol) → AreWalksOf k symbol self.old → AreSearched self.old.must self.old.may from marks
+        ensures walks { (k : Known) (symbol : Symbol) → AreWalksOf k symbol self.old → AreSearched self.old.must self.old.may from marks
             → AreWalksOf k symbol self.new }
+        ensures marks { OnOk result (get nat_cmp self.new.marks from ≡ Some marks) }
     {
         self.make_room(alloc);
         self.marks.insert(from, marks)?;

@@ -1,8 +1,10 @@
-use Rattle.std.proofs.Common.{rules, arith}
-use Rattle.std.proofs.lemmas.Grind.{common_steps}
-use Rattle.rf_values.specs.Truth.{may, must}
-use Rattle.rf_evaluate.proofs.WalkLemmas.{IsSideOf-other}
+use Rattle.rf_values.specs.Truth.{may}
+use Rattle.rf_evaluate.proofs.WalkLemmas.{IsSideOf-other, none-kept}
 use Rattle.rf_evaluate.proofs.closures.Walks.new.Goals as goal
 
 pub returns : goal.returns
-returns c = let e = c.new-marks.ensures in let o = c.other-may.ensures in ?
+returns c = λ k symbol steps. record {
+  must_side = steps.must_side;
+  may_side = IsSideOf-other may k symbol k.size c.args.steps.must c.args.steps.may c.other-may.result c.other-may.ensures steps.may_side;
+  searched = λ x own found. absurd (none-kept c.new.result c.new.ensures.empty x own found);
+}
