@@ -1,5 +1,5 @@
 -- The walks along a side of the steps are those of what is known, and the kept marks tell them.
-use Rattle.std.proofs.Common.{◌≡◌, ◌∙◌, ℕ, ◌≤◌, ◌<◌, ◌==◌, Bool, true, false, cond, Option, Some, None, List, [], ◌∷◌, length, map, get_or, refl, sym, ap, ap₂, subst, inl, inr, arith}
+use Rattle.std.proofs.Common.{◌≡◌, ◌∙◌, ℕ, ◌<◌, Bool, true, false, cond, Option, Some, None, List, [], ◌∷◌, length, map, get_or, refl, sym, ap, ap₂, subst, inl, inr, arith}
 use Rattle.std.specs.BTreeMap.{BTreeMap, get}
 use Rattle.std.specs.Ordering.{is_eq, nat_cmp, ordering_then}
 use Rattle.std.specs.Cmp.{booleans_Decides, unsigned_ties}
@@ -24,7 +24,7 @@ use Rattle.rf_problem.specs.Table.{is_key}
 use Rattle.rf_problem.proofs.KeyLemmas.{is_key-tied, same_symbol-same}
 use Rattle.rf_problem.specs.Reading.{Reading, predicate_true, symbol_true}
 use Rattle.rf_problem.specs.declared.symbol.Symbol.{Symbol}
-use Rattle.rf_evaluate.specs.Kept.{AreSearched, AreWalksOf, IsOther, IsSameSide, mark_of, marks_or, side_or, symbol_cmp}
+use Rattle.rf_evaluate.specs.Kept.{AreSearched, AreWalksOf, IsOther, IsSameSide, mark_of, side_or, symbol_cmp}
 use Rattle.rf_evaluate.specs.Known.{Known, side, walk_of}
 use Rattle.rf_evaluate.specs.Steps.{IsSideOf, step_of}
 use Rattle.rf_evaluate.specs.declared.closures.Marks.{Marks}

@@ -1,6 +1,6 @@
 -- The walks that were searched, symbol by symbol.
-use Rattle.std.specs.Prelude.{◌≡◌, ◌<◌, ℕ, Bool, false, IfSome, List, [], ◌∷◌, length, map, slice_index_or, Vec, Option, None, Some}
-use Rattle.std.specs.BTreeMap.{BTreeMap, get}
+use Rattle.std.specs.Prelude.{◌≡◌, ◌<◌, ℕ, Bool, false, List, length, map, slice_index_or, Vec, Option, None, Some}
+use Rattle.std.specs.BTreeMap.{get}
 use Rattle.std.specs.declared.alloc.Global.{Global}
 use Rattle.std.specs.declared.cmp.Ordering.{Ordering}
 use Rattle.rf_finite.specs.Walks.{walk_below}
@@ -11,7 +11,7 @@ use Rattle.std.specs.Option.{is_some}
 use Rattle.std.specs.Ordering.{nat_cmp}
 use Rattle.rf_problem.specs.contracts.symbol.SymbolOrd.TheImpl as symbol_ord
 use Rattle.rf_problem.specs.declared.symbol.Symbol.{Symbol}
-use Rattle.rf_evaluate.specs.Known.{Known, walk_of}
+use Rattle.rf_evaluate.specs.Known.{Known}
 use Rattle.rf_evaluate.specs.Steps.{IsSideOf}
 use Rattle.rf_evaluate.specs.declared.closures.Closures.{Closures}
 use Rattle.rf_evaluate.specs.declared.closures.Marks.{Marks}
