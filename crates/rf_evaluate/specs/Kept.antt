@@ -56,7 +56,7 @@ pub record IsSameSide (a b : Side) : Type 0 where
 -- the second side, where it isn't the same as the first
 abbrev pub IsOther : Side → Side → Option Side → Type 0
 IsOther first second None = IsSameSide first second
-IsOther first second (Some side) = side ≡ second
+IsOther first second (Some side) = (side ≡ second) × (IsSameSide first second → ⊥)
 
 -- these are the walks of a symbol's steps, and what was searched of them
 pub record AreWalksOf (k : Known) (symbol : Symbol) (walks : Walks) : Type 0 where

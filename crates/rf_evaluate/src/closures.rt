@@ -1,6 +1,6 @@
 //! Which walks there are, from the elements for which that was asked.
 
-ghost use Rattle.std.specs.Prelude.{◌≡◌, ◌<◌, ℕ, IsTrue, Some, true, false, IfOk, OnOk, slice_index_or};
+ghost use Rattle.std.specs.Prelude.{◌≡◌, ◌<◌, ◌↔◌, ℕ, IsTrue, Some, true, false, IfOk, OnOk, slice_index_or};
 ghost use Rattle.std.specs.BTreeMap.{get};
 ghost use Rattle.std.specs.Ordering.{nat_cmp};
 ghost use Rattle.rf_problem.specs.declared.symbol.Symbol.{Symbol};
@@ -58,7 +58,7 @@ struct Walks {
 }
 
 fn same(a: &Side, b: &Side) -> bool
-    ensures { IsTrue result → IsSameSide a.now b.now }
+    ensures { IsTrue result ↔ IsSameSide a.now b.now }
 {
     a.through.as_slice() == b.through.as_slice()
         && a.successors.as_slice() == b.successors.as_slice()
