@@ -24,9 +24,9 @@ use Rattle.rf_problem.specs.Table.{is_key}
 use Rattle.rf_problem.proofs.KeyLemmas.{is_key-tied, same_symbol-same}
 use Rattle.rf_problem.specs.Reading.{Reading, predicate_true, symbol_true}
 use Rattle.rf_problem.specs.declared.symbol.Symbol.{Symbol}
-use Rattle.rf_evaluate.specs.Kept.{AreSearched, AreWalksOf, IsOther, IsSameSide, mark_of, side_or, symbol_cmp}
+use Rattle.rf_evaluate.specs.Kept.{AreSearched, AreWalksOf, mark_of, side_or, symbol_cmp}
 use Rattle.rf_evaluate.specs.Known.{Known, side, walk_of}
-use Rattle.rf_evaluate.specs.Steps.{IsSideOf, step_of}
+use Rattle.rf_evaluate.specs.Steps.{IsOther, IsSameSide, IsSideOf, step_of}
 use Rattle.rf_evaluate.specs.declared.closures.Marks.{Marks}
 use Rattle.rf_evaluate.specs.declared.closures.Walks.{Walks}
 use Rattle.rf_evaluate.specs.declared.steps.Side.{Side}

@@ -4,9 +4,9 @@ ghost use Rattle.std.specs.Prelude.{◌≡◌, ◌<◌, ◌↔◌, ℕ, IsTrue, 
 ghost use Rattle.std.specs.BTreeMap.{get};
 ghost use Rattle.std.specs.Ordering.{nat_cmp};
 ghost use Rattle.rf_problem.specs.declared.symbol.Symbol.{Symbol};
-ghost use Rattle.rf_evaluate.specs.Kept.{AreKept, AreMarksOf, AreSearched, AreWalksOf, IsOther, IsSameSide, has, mark_of};
+ghost use Rattle.rf_evaluate.specs.Kept.{AreKept, AreMarksOf, AreSearched, AreWalksOf, has, mark_of};
 ghost use Rattle.rf_evaluate.specs.Known.{Known, walk_of};
-ghost use Rattle.rf_evaluate.specs.Steps.{AreStepsOf};
+ghost use Rattle.rf_evaluate.specs.Steps.{AreStepsOf, IsOther, IsSameSide};
 ghost use Rattle.rf_evaluate.specs.declared.closures.Marks.{Marks as MarksOf};
 
 use crate::steps::{Side, Steps};
