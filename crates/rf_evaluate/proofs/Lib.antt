@@ -5,3 +5,5 @@ pub mod Pending
 pub mod Unassigned
 pub mod Cells
 pub mod Narrowing
+pub mod StepLemmas
+pub mod WalkLemmas
