@@ -6,3 +6,7 @@ pub mod Unassigned
 pub mod Cells
 pub mod Narrowing
 pub mod StageLemmas
+pub mod EvaluationTruths
+pub mod EvaluationSymbols
+pub mod EvaluationTerms
+pub mod EvaluationMeasure
