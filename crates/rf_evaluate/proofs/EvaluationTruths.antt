@@ -101,3 +101,8 @@ some_truth-elements n elements f below others =
     some_truth-sides n f
     ∙ (ap₂ truth_of (some_below-elements n elements (λ x. must (f x)) below (λ x l o. ap must (others x l o))) (some_below-elements n elements (λ x. may (f x)) below (λ x l o. ap may (others x l o)))
     ∙ sym (some_truth-sides (count elements) (λ i. f (element_at elements i))))
+
+pub included-element_at : (elements : Elements) (x : ℕ) → includes elements x ≡ true → some_below (count elements) (λ i. element_at elements i == x) ≡ true
+included-element_at elements x h =
+    let one = element_at-included elements x h in
+    some_below-from_one (count elements) (λ i. element_at elements i == x) one.0 one.1 (eq-eqb (element_at elements one.0) x one.2)

@@ -10,3 +10,4 @@ pub mod EvaluationTruths
 pub mod EvaluationSymbols
 pub mod EvaluationTerms
 pub mod EvaluationMeasure
+pub mod EvaluationRows
