@@ -5,6 +5,7 @@ use Rattle.std.proofs.lemmas.Bool.{and_from, cases_Bool, cases_lt, eq-eqb, eqb-t
 use Rattle.std.proofs.lemmas.Grind.{get_or-set_at}
 use Rattle.std.proofs.lemmas.List.{get_or-set_other, get_or_past}
 use Rattle.rf_finite.specs.Range.{count_below}
+use Rattle.rf_evaluate.proofs.Completing.{marked-within}
 use Rattle.rf_finite.proofs.Range.{count_below-le_bound, count_below-le, count_below-without}
 
 -- how many marks of the first n are set
@@ -19,10 +20,6 @@ steps_left is_inner unassigned pending = (if is_inner then 2 ^ 67 else 2 ^ 69) +
 abbrev pub literal_left : Bool → ℕ
 literal_left is_inner = if is_inner then 2 ^ 66 else 2 ^ 68
 
--- a mark that is set is below the end
-marked-below : (marks : List Bool) (i : ℕ) → slice_index_or marks i false ≡ true → i < length marks
-marked-below marks i e = elim (cases_lt i (length marks)) [ inl l ↦ l | inr g ↦ absurd (true≢false (sym e ∙ get_or_past marks i false g)) ]
-
 -- what is set after one mark was taken away was set before, and is another
 left_marked : (marks : List Bool) (i j : ℕ) → i < length marks → slice_index_or (slice_set marks i false) j false ≡ true → (not (eqb j i) && slice_index_or marks j false) ≡ true
 left_marked marks i j l h = elim (cases_Bool (eqb j i)) [
@@ -36,7 +33,7 @@ pub marked-without : (n : ℕ) (marks : List Bool) (i : ℕ) → i < n → slice
 marked-without n marks i l e =
     let one = count_below-without n (λ j. slice_index_or marks j false) i l e in
     let fewer : marked n (slice_set marks i false) ≤ count_below n (λ j. not (eqb j i) && slice_index_or marks j false) =
-    count_below-le n (λ j. slice_index_or (slice_set marks i false) j false) (λ j. not (eqb j i) && slice_index_or marks j false) (λ j m h. left_marked marks i j (marked-below marks i e) h) in
+    count_below-le n (λ j. slice_index_or (slice_set marks i false) j false) (λ j. not (eqb j i) && slice_index_or marks j false) (λ j m h. left_marked marks i j (marked-within marks i e) h) in
     omega arith
 
 -- none are more than there are

@@ -27,7 +27,8 @@ use Rattle.rf_values.specs.declared.truth.Truth.TheVariants.{True, False}
 use Rattle.rf_evaluate.specs.Evaluating.{IsSoundClause, IsWithin, LiteralIsWithin, call_rank, calls_of, clause_value, some_clause_value}
 use Rattle.rf_evaluate.specs.Known.{Known, declares, in_both, side, value_of, walk_of}
 use Rattle.rf_evaluate.specs.Terms.{AreElements}
-use Rattle.rf_evaluate.proofs.EvaluationTruths.{disjunction-assoc, disjunction-False, truth_of-or}
+use Rattle.rf_evaluate.proofs.EvaluationTruths.{disjunction-assoc, disjunction-False}
+use Rattle.rf_evaluate.proofs.InBoth.{disjunction-truth_of}
 
 -- cells that hold elements
 pub AreElements-tuple : (cells t : List ℕ) (n : ℕ) → slice_index cells ≡ slice_index t → All (λ x. x < n) t → AreElements n cells
@@ -144,8 +145,8 @@ pub some_clause_value-at : (k : Known) (arity : ℕ) (t : List ℕ) (clauses : L
 some_clause_value-at k arity t clauses i c l e =
     let rest : drop i clauses ≡ c ∷ drop (i + 1) clauses = drop-cons clauses i c l ∙ ap₂ (λ (x : Clause) (xs : List Clause). x ∷ xs) (sym e) (ap (λ (n : ℕ). drop n clauses) (sym (add-one i))) in
     ap (some_clause_value k arity t) rest
-    ∙ truth_of-or (clause_true (calls_of k) (side must k) (side may k) arity t c) (clause_true (calls_of k) (side may k) (side must k) arity t c)
-    (list_any (clause_true (calls_of k) (side must k) (side may k) arity t) (drop (i + 1) clauses)) (list_any (clause_true (calls_of k) (side may k) (side must k) arity t) (drop (i + 1) clauses))
+    ∙ sym (disjunction-truth_of (clause_true (calls_of k) (side must k) (side may k) arity t c) (clause_true (calls_of k) (side may k) (side must k) arity t c)
+    (list_any (clause_true (calls_of k) (side must k) (side may k) arity t) (drop (i + 1) clauses)) (list_any (clause_true (calls_of k) (side may k) (side must k) arity t) (drop (i + 1) clauses)))
 
 -- a loop through clauses: what was found, with what is left, is all
 abbrev pub IsClausesLeft : Known → ℕ → List ℕ → List Clause → ℕ → Truth → Type 0

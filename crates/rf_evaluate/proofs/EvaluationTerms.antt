@@ -27,7 +27,9 @@ use Rattle.rf_evaluate.specs.declared.claim.Claim.{Claim}
 use Rattle.rf_evaluate.specs.declared.claim.Claim.TheVariants.{Holds, Same, Differ}
 use Rattle.rf_evaluate.specs.declared.elements.Elements.{Elements}
 use Rattle.rf_evaluate.specs.declared.stage.Body.{Body}
-use Rattle.rf_evaluate.proofs.EvaluationTruths.{may-truth_of, must-truth_of, disjunction-False, some_truth-elements, some_truth-found, some_truth-next, some_truth-sides}
+use Rattle.rf_evaluate.proofs.Candidates.{some_truth-among}
+use Rattle.rf_evaluate.proofs.EvaluationTruths.{disjunction-False, some_truth-found, some_truth-next}
+use Rattle.rf_evaluate.proofs.InBoth.{may-truth_of, must-truth_of, some_truth-pair}
 use Rattle.rf_evaluate.proofs.EvaluationSymbols.{arity_of-few, symbol_true-same}
 
 -- the elements of terms, with 0 for atoms, are elements where those of variables are
@@ -132,7 +134,7 @@ claim_for-atom k claim terms o atoms assignment choice =
     ap₂ (λ (p q : ℕ → Bool). truth_of (some_below k.size p) (some_below k.size q))
     (λ j x. must-chosen (k.presence x) (k.origin x == o) (left x) (right x) j)
     (λ j x. may-chosen (k.presence x) (k.origin x == o) (left x) (right x) j)
-    ∙ sym (some_truth-sides k.size (claim_with k claim terms o atoms assignment choice))
+    ∙ sym (some_truth-pair k.size (claim_with k claim terms o atoms assignment choice))
 
 -- a loop through the elements that can come from an atom
 module _ (k : Known) (claim : Claim) (terms : List Term) (cells : List ℕ) (o : ℕ) (atoms : List ℕ) (elements : Elements) where
@@ -142,19 +144,22 @@ module _ (k : Known) (claim : Claim) (terms : List Term) (cells : List ℕ) (o :
       → found ≡ some_truth n (λ i. claim_with k claim terms o atoms assignment choice (element_at elements i))
 
   -- with one that isn't present or comes from elsewhere
-  pub IsFoundWith-absent : (n : ℕ) (found : Truth) → presence_from k o (element_at elements n) ≡ False → IsFoundWith n found → IsFoundWith (n + 1) found
-  IsFoundWith-absent n found absent so_far = λ assignment choice h.
+  pub IsFoundWith-absent : (n : ℕ) (found presence : Truth) (x : ℕ) → x ≡ element_at elements n → presence ≡ presence_from k o x → presence ≡ False
+      → IsFoundWith n found → IsFoundWith (n + 1) found
+  IsFoundWith-absent n found presence x is at absent so_far = λ assignment choice h.
       let more = some_truth-next n (λ i. claim_with k claim terms o atoms assignment choice (element_at elements i)) found False (so_far assignment choice h)
-          (sym (ap (λ (v : Truth). conjunction v (claim_for k claim terms atoms assignment (assign choice o (element_at elements n)))) absent)) in
+          (sym (ap (λ (v : Truth). conjunction v (claim_for k claim terms atoms assignment (assign choice o (element_at elements n))))
+          (ap (presence_from k o) (sym is) ∙ (sym at ∙ absent)))) in
       sym (disjunction-False found) ∙ more
 
-  pub IsFoundWith-next : (n : ℕ) (found value : Truth) (more : List ℕ) → IsWithAtom cells terms o (element_at elements n) more → IsValueFor k claim terms more atoms value
-      → IsFoundWith n found → IsFoundWith (n + 1) (disjunction found (conjunction (presence_from k o (element_at elements n)) value))
-  IsFoundWith-next n found value more with_it said so_far = λ assignment choice h.
-      some_truth-next n (λ i. claim_with k claim terms o atoms assignment choice (element_at elements i)) found
-      (conjunction (presence_from k o (element_at elements n)) value) (so_far assignment choice h)
-      (ap (conjunction (presence_from k o (element_at elements n)))
-      (said assignment (assign choice o (element_at elements n)) (StandFor-with_atom cells more terms o (element_at elements n) assignment choice with_it h)))
+  pub IsFoundWith-next : (n : ℕ) (found presence value : Truth) (x : ℕ) (more : List ℕ) → x ≡ element_at elements n → presence ≡ presence_from k o x
+      → IsWithAtom cells terms o x more → IsValueFor k claim terms more atoms value
+      → IsFoundWith n found → IsFoundWith (n + 1) (disjunction found (conjunction presence value))
+  IsFoundWith-next n found presence value x more is at with_it said so_far = λ assignment choice h.
+      some_truth-next n (λ i. claim_with k claim terms o atoms assignment choice (element_at elements i)) found (conjunction presence value) (so_far assignment choice h)
+      (ap (λ (v : Truth). conjunction v value) at
+      ∙ (ap (conjunction (presence_from k o x)) (said assignment (assign choice o x) (StandFor-with_atom cells more terms o x assignment choice with_it h))
+      ∙ ap (claim_with k claim terms o atoms assignment choice) is))
 
   module _ (below : AreBelow k.size elements) (complete : (x : ℕ) → x < k.size → k.origin x ≡ o → includes elements x ≡ true) where
     -- one of all elements is one of them
@@ -162,7 +167,7 @@ module _ (k : Known) (claim : Claim) (terms : List Term) (cells : List ℕ) (o :
         → claim_for k claim terms (o ∷ atoms) assignment choice ≡ some_truth (count elements) (λ i. claim_with k claim terms o atoms assignment choice (element_at elements i))
     claim_for-elements assignment choice =
         claim_for-atom k claim terms o atoms assignment choice
-        ∙ some_truth-elements k.size elements (claim_with k claim terms o atoms assignment choice) below
+        ∙ some_truth-among k.size (claim_with k claim terms o atoms assignment choice) elements below
         (λ x l e. let elsewhere : (k.origin x == o) ≡ false = false_from_ne_true (k.origin x == o) (λ t. true≢false (sym (complete x l (eqb-true (k.origin x) o t)) ∙ e)) in
             ap (λ (b : Bool). conjunction (if b then k.presence x else False) (claim_for k claim terms atoms assignment (assign choice o x))) elsewhere)
 

@@ -11,3 +11,4 @@ pub mod EvaluationSymbols
 pub mod EvaluationTerms
 pub mod EvaluationMeasure
 pub mod EvaluationRows
+pub mod EvaluationStages
