@@ -12,3 +12,5 @@ pub mod EvaluationTerms
 pub mod EvaluationMeasure
 pub mod EvaluationRows
 pub mod EvaluationStages
+pub mod StepLemmas
+pub mod WalkLemmas
