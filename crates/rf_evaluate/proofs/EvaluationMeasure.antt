@@ -39,3 +39,19 @@ marked-without n marks i l e =
 -- none are more than there are
 pub marked-few : (n : ℕ) (marks : List Bool) → marked n marks ≤ n
 marked-few n marks = count_below-le_bound n (λ i. slice_index_or marks i false)
+
+-- fewer steps are left after a literal, and with an element for a variable
+pub steps_left-without : (is_inner : Bool) (unassigned pending : List Bool) (i : ℕ) → i < 36 → slice_index_or pending i false ≡ true
+    → steps_left is_inner unassigned (slice_set pending i false) + 4 ≤ steps_left is_inner unassigned pending
+steps_left-without is_inner unassigned pending i l e = let fewer = marked-without 36 pending i l e in omega arith
+
+pub steps_left-with : (is_inner : Bool) (unassigned pending : List Bool) (v : ℕ) → v < 8 → slice_index_or unassigned v false ≡ true
+    → steps_left is_inner (slice_set unassigned v false) pending + 4 ≤ steps_left is_inner unassigned pending
+steps_left-with is_inner unassigned pending v l e = let fewer = marked-without 8 unassigned v l e in omega arith
+
+-- inside a negation fewer are left than of the literal outside, and of a clause no more than this
+pub steps_left-inside : (unassigned pending : List Bool) → steps_left true unassigned pending < literal_left false
+steps_left-inside unassigned pending = let few = marked-few 8 unassigned in let least = marked-few 36 pending in omega arith
+
+pub steps_left-few : (is_inner : Bool) (unassigned pending : List Bool) → is_inner ≡ false → steps_left is_inner unassigned pending < 2 ^ 70
+steps_left-few is_inner unassigned pending e = let few = marked-few 8 unassigned in let least = marked-few 36 pending in rw e (omega arith)
