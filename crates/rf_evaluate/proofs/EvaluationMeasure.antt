@@ -1,9 +1,9 @@
 -- How much of an evaluation is left.
-use Rattle.std.proofs.Common.{◌≡◌, ℕ, zero, suc, ◌+◌, ◌*◌, ◌^◌, ◌<◌, ◌≤◌, Bool, true, false, not, ◌&&◌, ◌==◌, if◌then◌else◌, List, length, get_or, refl, sym, ap, ◌∙◌, subst, inl, inr, arith, eqb, slice_set, true≢false}
+use Rattle.std.proofs.Common.{◌≡◌, ℕ, ◌+◌, ◌*◌, ◌^◌, ◌<◌, ◌≤◌, Bool, true, false, not, ◌&&◌, if◌then◌else◌, List, length, sym, ap, ◌∙◌, inl, inr, arith, eqb, slice_set, true≢false}
 use Rattle.std.specs.Prelude.{slice_index_or}
-use Rattle.std.proofs.lemmas.Bool.{and_from, cases_Bool, cases_lt, eq-eqb, eqb-true}
+use Rattle.std.proofs.lemmas.Bool.{and_from, cases_Bool, eq-eqb, eqb-true}
 use Rattle.std.proofs.lemmas.Grind.{get_or-set_at}
-use Rattle.std.proofs.lemmas.List.{get_or-set_other, get_or_past}
+use Rattle.std.proofs.lemmas.List.{get_or-set_other}
 use Rattle.rf_finite.specs.Range.{count_below}
 use Rattle.rf_evaluate.proofs.Completing.{marked-within}
 use Rattle.rf_finite.proofs.Range.{count_below-le_bound, count_below-le, count_below-without}

@@ -1,20 +1,17 @@
 -- One step of completing a body, and of its literals.
-use Rattle.std.proofs.Common.{◌≡◌, ℕ, zero, suc, ◌+◌, ◌<◌, ◌≤◌, Bool, true, false, Option, Some, None, List, [], ◌∷◌, length, get_or, refl, sym, ap, ◌∙◌, subst, inl, inr, arith, max, eqb, All, slice_set, true≢false}
+use Rattle.std.proofs.Common.{◌≡◌, ℕ, ◌+◌, ◌<◌, ◌≤◌, Bool, true, false, Option, Some, None, List, length, get_or, sym, ap, ◌∙◌, subst, inl, inr, arith, max, eqb, All, slice_set, true≢false}
 use Rattle.std.specs.Prelude.{◌&&◌, nat_le, nat_lt, slice_get, slice_index, slice_index_or}
 use Rattle.std.proofs.lemmas.Bool.{cases_Bool, cases_lt, eq-eqb, eqb-true}
 use Rattle.std.proofs.lemmas.Grind.{get_or-set_at}
 use Rattle.std.proofs.lemmas.List.{get_or-set_other, get_or_past, length-set}
 use Rattle.std.proofs.lemmas.Option.{get_or_from_slice_get, slice_get-get_or}
-use Rattle.rf_problem.specs.Reading.{is_entry}
 use Rattle.rf_problem.specs.Valid.{is_free}
 use Rattle.rf_problem.specs.declared.predicate.Literal.{Literal}
-use Rattle.rf_problem.specs.declared.predicate.Literal.TheVariants.{Call, Same}
-use Rattle.rf_problem.specs.declared.predicate.Term.{Term}
+use Rattle.rf_problem.specs.declared.predicate.Literal.TheVariants.{Same}
 use Rattle.rf_problem.specs.declared.predicate.Term.TheVariants.{Var}
-use Rattle.rf_problem.specs.declared.symbol.Symbol.{Symbol}
 use Rattle.rf_values.specs.Truth.{conjunction, disjunction}
 use Rattle.rf_values.specs.declared.truth.Truth.{Truth}
-use Rattle.rf_values.specs.declared.truth.Truth.TheVariants.{True, False}
+use Rattle.rf_values.specs.declared.truth.Truth.TheVariants.{True}
 use Rattle.rf_evaluate.specs.Elements.{count, element_at}
 use Rattle.rf_problem.specs.declared.predicate.Clause.{Clause}
 use Rattle.rf_evaluate.specs.Evaluating.{AreCandidates, AreSound, IsSoundBody, IsSoundClause, completed_value, completed_with, literal_value, some_truth, without_literal}

@@ -1,5 +1,5 @@
-use Rattle.std.proofs.Common.{rules, arith, ◌≡◌, ◌<◌, ◌≤◌, ◌∷◌, ◌+◌, ◌-◌, ◌*◌, ◌^◌, ◌∙◌, ℕ, false, true, Some, None, [], drop, length, max, refl, sym, ap, ap₂, subst, suc, add-one, slice_set, get_or, Bool, List, All}
-use Rattle.std.specs.Prelude.{slice_get, slice_index, slice_index_or}
+use Rattle.std.proofs.Common.{rules, arith, ◌≡◌, ◌<◌, ◌≤◌, ◌∷◌, ◌+◌, ◌-◌, ◌∙◌, ℕ, true, Some, [], drop, length, refl, sym, ap, ap₂, subst, suc, add-one, Bool, List, All}
+use Rattle.std.specs.Prelude.{slice_get, slice_index}
 use Rattle.std.proofs.lemmas.Option.{slice_get-get_or}
 use Rattle.std.proofs.lemmas.Result.{IfOk-weaker}
 use Rattle.rf_values.specs.Truth.{conjunction, disjunction, negation}
@@ -27,7 +27,7 @@ use Rattle.rf_evaluate.proofs.Completing.{completed-done, literal-negated}
 use Rattle.rf_evaluate.proofs.EvaluationMeasure.{steps_left, steps_left-few, steps_left-inside, steps_left-with, steps_left-without}
 use Rattle.rf_evaluate.proofs.EvaluationRows.{IsRowBegun-next, IsRowOf-ended}
 use Rattle.rf_evaluate.proofs.EvaluationStages.{AreElements-set, IsClausesLeft-body, IsSoundBody-of_clause, completed-ended, completed-found, completed-literal, none_marked, same_listed}
-use Rattle.rf_evaluate.proofs.EvaluationSymbols.{AreElements-pair, IsClausesLeft, IsClausesLeft-found, IsSoundClause-from_problem, value_of-clauses, value_of-same, walk_of-empty}
+use Rattle.rf_evaluate.proofs.EvaluationSymbols.{AreElements-pair, IsClausesLeft-found, IsSoundClause-from_problem, value_of-clauses, value_of-same, walk_of-empty}
 use Rattle.rf_evaluate.proofs.EvaluationTerms.{AreElements-variables, IsFoundWith, IsFoundWith-absent, IsFoundWith-next, IsSoundCall-from_body, IsValueFor-ended, IsValueFor-ended_elements, IsValueFor-found, claim_value-from_start, literal_value-call, literal_value-different, literal_value-inner, literal_value-same}
 use Rattle.rf_evaluate.proofs.evaluate.+evaluate.Goals.{claim_for_atom-then-ne+in_ok-value+else-eq, claim_for_atom-else-ne, literal_value-else-negated-via-then-negated+else-not-body, literal_value-else-negated-via-else-negated, walk_value-then-not-has+in_ok-steps+in_ok-put, walk_value-else-not-has}
 use Rattle.rf_evaluate.proofs.evaluate.+evaluate.Goals as goal
@@ -38,8 +38,8 @@ claim_for_atom-returns-then-eq-clause-value g t c =
     let found : c.or-found.result ≡ True = search rules in
     let is : c.or-found.result ≡ disjunction c.loop-number.found (conjunction c.presence_from-presence.result c.in_ok-value.value) = c.or-found.ensures ∙ ap (disjunction c.loop-number.found) c.and.ensures in
     let more = IsFoundWith-next k c.args.claim c.args.terms.now c.args.places c.args.atom (atoms_among (drop (suc c.args.n) c.args.terms.now)) c.from_object-elements.result
-        c.loop-number.number c.loop-number.found c.presence_from-presence.result c.in_ok-value.value c.at-x.result c.with_atom-more.result c.at-x.ensures c.presence_from-presence.ensures
-        c.with_atom-more.ensures (rw add-one at c.in_ok-value.ensures.value) c.loop-number.invariant.found in
+    c.loop-number.number c.loop-number.found c.presence_from-presence.result c.in_ok-value.value c.at-x.result c.with_atom-more.result c.at-x.ensures c.presence_from-presence.ensures
+    c.with_atom-more.ensures (rw add-one at c.in_ok-value.ensures.value) c.loop-number.invariant.found in
     let few : c.loop-number.number + 1 ≤ count c.from_object-elements.result = omega (arith, c.count-number-end.ensures) in
     IsValueFor-found k c.args.claim c.args.terms.now c.args.places c.args.atom (atoms_among (drop (suc c.args.n) c.args.terms.now)) c.from_object-elements.result
     c.from_object-elements.ensures.below c.from_object-elements.ensures.complete (c.loop-number.number + 1) c.or-found.result few found (rw (← is) at more)
@@ -52,8 +52,8 @@ claim_for_atom-loop-number-preserved g t c =
       | claim_for_atom-then-ne+in_ok-value+else-eq w ↦
           (let is : c.if-ne.found ≡ disjunction c.loop-number.found (conjunction c.presence_from-presence.result w.in_ok-value.value) = w.found-is ∙ (w.or-found.ensures ∙ ap (disjunction c.loop-number.found) w.and.ensures) in
           let more = IsFoundWith-next k c.args.claim c.args.terms.now c.args.places c.args.atom atoms c.from_object-elements.result
-              c.loop-number.number c.loop-number.found c.presence_from-presence.result w.in_ok-value.value c.at-x.result w.with_atom-more.result c.at-x.ensures c.presence_from-presence.ensures
-              w.with_atom-more.ensures (rw add-one at w.in_ok-value.ensures.value) c.loop-number.invariant.found in
+          c.loop-number.number c.loop-number.found c.presence_from-presence.result w.in_ok-value.value c.at-x.result w.with_atom-more.result c.at-x.ensures c.presence_from-presence.ensures
+          w.with_atom-more.ensures (rw add-one at w.in_ok-value.ensures.value) c.loop-number.invariant.found in
           record {
             kept = subst (λ (x : Closures). AreKept k x) (sym w.closures-is) w.in_ok-value.ensures.kept;
             found = subst (λ (x : Truth). IsFoundWith k c.args.claim c.args.terms.now c.args.places c.args.atom atoms c.from_object-elements.result (c.loop-number.number + 1) x) (sym is) more;
@@ -63,7 +63,7 @@ claim_for_atom-loop-number-preserved g t c =
           let test = c.ne.ensures in
           let absent : c.presence_from-presence.result ≡ False = search rules in
           let more = IsFoundWith-absent k c.args.claim c.args.terms.now c.args.places c.args.atom atoms c.from_object-elements.result
-              c.loop-number.number c.loop-number.found c.presence_from-presence.result c.at-x.result c.at-x.ensures c.presence_from-presence.ensures absent c.loop-number.invariant.found in
+          c.loop-number.number c.loop-number.found c.presence_from-presence.result c.at-x.result c.at-x.ensures c.presence_from-presence.ensures absent c.loop-number.invariant.found in
           record {
             kept = subst (λ (x : Closures). AreKept k x) (sym w.closures-is) c.loop-number.invariant.kept;
             found = subst (λ (x : Truth). IsFoundWith k c.args.claim c.args.terms.now c.args.places c.args.atom atoms c.from_object-elements.result (c.loop-number.number + 1) x) (sym w.found-is) more;
@@ -106,7 +106,7 @@ completed-completed-requires g t c κs within =
     let k = g.K.Knowledge.known c.args.known.now in
     let body = c.args.body.now in
     let fewer = subst (λ (s : Stage). steps_left body.is_inner s.unassigned s.pending + 4 ≤ steps_left body.is_inner c.args.stage.unassigned c.args.stage.pending) (sym c.without.ensures)
-        (steps_left-without body.is_inner c.args.stage.unassigned c.args.stage.pending c.in-Some.i (omega (arith, c.in-Some.ensures.found, c.requires.sound.few_literals)) c.in-Some.ensures.pending) in
+    (steps_left-without body.is_inner c.args.stage.unassigned c.args.stage.pending c.in-Some.i (omega (arith, c.in-Some.ensures.found, c.requires.sound.few_literals)) c.in-Some.ensures.pending) in
     let elements = subst (λ (s : Stage). AreElements k.size s.elements) (sym c.without.ensures) c.requires.elements in
     (search rules, (within, (c.requires.sound, (elements, c.in_ok-value.ensures.kept))))
 
@@ -148,8 +148,8 @@ literal_value-returns-then-not-body-clause-value g t c =
     let inner = c.inner_of-inner.result in
     λ l e.
     let negated = literal-negated k c.args.body.now inner c.inside-stage.result c.args.i c.in-Call.closure c.in-Call.symbol c.in-Call.args (slice_index c.args.elements)
-        c.if-not-body.true (ap (λ (b : Body). b.is_inner) c.inner_of-inner.ensures) (ap (λ (b : Body). b.variables.now) c.inner_of-inner.ensures) (ap (λ (b : Body). b.literals.now) c.inner_of-inner.ensures)
-        own (omega (arith, c.requires.sound.few_variables)) (ap slice_index c.inside-stage.ensures.elements) (rw (ap (λ (b : Body). b.variables.now) c.inner_of-inner.ensures) at c.inside-stage.ensures.unassigned) c.inside-stage.ensures.pending in
+    c.if-not-body.true (ap (λ (b : Body). b.is_inner) c.inner_of-inner.ensures) (ap (λ (b : Body). b.variables.now) c.inner_of-inner.ensures) (ap (λ (b : Body). b.literals.now) c.inner_of-inner.ensures)
+    own (omega (arith, c.requires.sound.few_variables)) (ap slice_index c.inside-stage.ensures.elements) (rw (ap (λ (b : Body). b.variables.now) c.inner_of-inner.ensures) at c.inside-stage.ensures.unassigned) c.inside-stage.ensures.pending in
     c.negate.ensures ∙ (ap negation c.in_ok-completed-in-Call.ensures.value ∙ (sym negated
     ∙ ap (λ (m : LiteralOf). literal_value k c.args.body.now c.args.i m (slice_index c.args.elements)) (same_listed c.args.body.now.literals.now c.args.i _ l own e)))
 
@@ -239,7 +239,7 @@ pub some_clause-completed-requires : goal.some_clause-completed-requires
 some_clause-completed-requires g t c κs within =
     let k = g.K.Knowledge.known c.args.known.now in
     let sound = IsSoundBody-of_clause k c.args.depth c.args.clauses.now c.loop-clause.clause-index c.clause-item.result c.body_of-body.result c.requires.sound c.loop-clause-test.true c.clause-item.is
-        c.body_of-body.ensures.variables c.body_of-body.ensures.literals c.body_of-body.ensures.depth in
+    c.body_of-body.ensures.variables c.body_of-body.ensures.literals c.body_of-body.ensures.depth in
     let fewer = steps_left-few c.body_of-body.result.is_inner c.of_clause-stage.result.unassigned c.of_clause-stage.result.pending c.body_of-body.ensures.inner in
     (search rules, (within, (sound, (subst (AreElements k.size) (sym c.of_clause-stage.ensures.elements) c.requires.elements, c.loop-clause.invariant.kept))))
 
@@ -248,9 +248,9 @@ some_clause-returns-then-eq-clause-value g t c =
     let k = g.K.Knowledge.known c.args.known.now in
     let eight : length c.of_clause-stage.result.unassigned ≡ 8 = search rules in
     let more = IsClausesLeft-body k c.args.depth c.args.arity c.args.elements c.args.clauses.now c.loop-clause.clause-index c.clause-item.result c.body_of-body.result c.of_clause-stage.result
-        c.loop-clause.found c.in_ok-completed.field-0 c.or-found.result c.requires.sound c.loop-clause-test.true c.clause-item.is c.body_of-body.ensures.inner c.body_of-body.ensures.variables
-        c.body_of-body.ensures.literals eight c.of_clause-stage.ensures.elements c.of_clause-stage.ensures.unassigned c.of_clause-stage.ensures.pending c.in_ok-completed.ensures.value
-        c.or-found.ensures c.loop-clause.invariant.found in
+    c.loop-clause.found c.in_ok-completed.field-0 c.or-found.result c.requires.sound c.loop-clause-test.true c.clause-item.is c.body_of-body.ensures.inner c.body_of-body.ensures.variables
+    c.body_of-body.ensures.literals eight c.of_clause-stage.ensures.elements c.of_clause-stage.ensures.unassigned c.of_clause-stage.ensures.pending c.in_ok-completed.ensures.value
+    c.or-found.ensures c.loop-clause.invariant.found in
     let found : c.or-found.result ≡ True = search rules in
     IsClausesLeft-found k c.args.arity c.args.elements c.args.clauses.now (c.loop-clause.clause-index + 1) c.or-found.result more found
 
@@ -259,16 +259,16 @@ some_clause-loop-clause-preserved g t c =
     let k = g.K.Knowledge.known c.args.known.now in
     let eight : length c.of_clause-stage.result.unassigned ≡ 8 = search rules in
     let more = IsClausesLeft-body k c.args.depth c.args.arity c.args.elements c.args.clauses.now c.loop-clause.clause-index c.clause-item.result c.body_of-body.result c.of_clause-stage.result
-        c.loop-clause.found c.in_ok-completed.field-0 c.or-found.result c.requires.sound c.loop-clause-test.true c.clause-item.is c.body_of-body.ensures.inner c.body_of-body.ensures.variables
-        c.body_of-body.ensures.literals eight c.of_clause-stage.ensures.elements c.of_clause-stage.ensures.unassigned c.of_clause-stage.ensures.pending c.in_ok-completed.ensures.value
-        c.or-found.ensures c.loop-clause.invariant.found in
+    c.loop-clause.found c.in_ok-completed.field-0 c.or-found.result c.requires.sound c.loop-clause-test.true c.clause-item.is c.body_of-body.ensures.inner c.body_of-body.ensures.variables
+    c.body_of-body.ensures.literals eight c.of_clause-stage.ensures.elements c.of_clause-stage.ensures.unassigned c.of_clause-stage.ensures.pending c.in_ok-completed.ensures.value
+    c.or-found.ensures c.loop-clause.invariant.found in
     record { kept = c.in_ok-completed.ensures.kept; found = more }
 
 pub some_element-returns-then-eq-clause-value : goal.some_element-returns-then-eq-clause-value
 some_element-returns-then-eq-clause-value g t c =
     let k = g.K.Knowledge.known c.args.known.now in
     let next = some_truth-next c.loop-number.number (λ i. completed_with k c.args.body.now c.args.stage c.args.v (element_at c.args.elements i)) c.loop-number.found c.in_ok-with_element.field-0
-        c.loop-number.invariant.found (c.in_ok-with_element.ensures.value ∙ ap (completed_with k c.args.body.now c.args.stage c.args.v) c.at-x.ensures) in
+    c.loop-number.invariant.found (c.in_ok-with_element.ensures.value ∙ ap (completed_with k c.args.body.now c.args.stage c.args.v) c.at-x.ensures) in
     let found : c.or-found.result ≡ True = search rules in
     let marks : length c.args.stage.unassigned ≤ length c.args.stage.elements = search rules in
     let few : c.loop-number.number + 1 ≤ count c.args.elements = omega (arith, c.count-number-end.ensures) in
@@ -278,7 +278,7 @@ pub some_element-loop-number-preserved : goal.some_element-loop-number-preserved
 some_element-loop-number-preserved g t c =
     let k = g.K.Knowledge.known c.args.known.now in
     let next = some_truth-next c.loop-number.number (λ i. completed_with k c.args.body.now c.args.stage c.args.v (element_at c.args.elements i)) c.loop-number.found c.in_ok-with_element.field-0
-        c.loop-number.invariant.found (c.in_ok-with_element.ensures.value ∙ ap (completed_with k c.args.body.now c.args.stage c.args.v) c.at-x.ensures) in
+    c.loop-number.invariant.found (c.in_ok-with_element.ensures.value ∙ ap (completed_with k c.args.body.now c.args.stage c.args.v) c.at-x.ensures) in
     record { kept = c.in_ok-with_element.ensures.kept; found = c.or-found.ensures ∙ next }
 
 pub some_element-returns-clause-value : goal.some_element-returns-clause-value
