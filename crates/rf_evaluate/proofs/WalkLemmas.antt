@@ -24,9 +24,9 @@ use Rattle.rf_problem.specs.Table.{is_key}
 use Rattle.rf_problem.proofs.KeyLemmas.{is_key-tied, same_symbol-same}
 use Rattle.rf_problem.specs.Reading.{Reading, predicate_true, symbol_true}
 use Rattle.rf_problem.specs.declared.symbol.Symbol.{Symbol}
-use Rattle.rf_evaluate.specs.Kept.{AreSearched, AreWalksOf, IsOther, IsSameSide, mark_of, side_or, symbol_cmp}
+use Rattle.rf_evaluate.specs.Kept.{AreSearched, AreWalksOf, mark_of, side_or, symbol_cmp}
 use Rattle.rf_evaluate.specs.Known.{Known, side, walk_of}
-use Rattle.rf_evaluate.specs.Steps.{IsSideOf, step_of}
+use Rattle.rf_evaluate.specs.Steps.{IsOther, IsSameSide, IsSideOf, step_of}
 use Rattle.rf_evaluate.specs.declared.closures.Marks.{Marks}
 use Rattle.rf_evaluate.specs.declared.closures.Walks.{Walks}
 use Rattle.rf_evaluate.specs.declared.steps.Side.{Side}
@@ -73,6 +73,10 @@ mark_of-walk k symbol walks x y marks held found lx ly =
     ∙ walks-along may k symbol (side_or walks.must walks.may) (step_in k symbol (side may k) (side must k))
     (λ u v. may-of (step_in k symbol (side must k) (side may k) u v) (step_in k symbol (side may k) (side must k) u v)) held.may_side x y lx ly)
 
+-- the comparison of the lists of two sides
+abbrev same_lists : Side → Side → Bool
+same_lists a b = pointwise (λ (x y : Vec ℕ Global). pointwise nat_eq x.items y.items) a.successors.items b.successors.items
+
 -- the same side has the same steps
 IsSideOf-same : (column : Truth → Bool) (k : Known) (symbol : Symbol) (n : ℕ) (a b : Side) → IsSameSide a b → IsSideOf column k symbol n b → IsSideOf column k symbol n a
 IsSideOf-same column k symbol n a b same held = record {
@@ -82,20 +86,27 @@ IsSideOf-same column k symbol n a b same held = record {
   passes = λ x l. ap (λ (marks : List Bool). get_or marks x false) same.through ∙ held.passes x l;
 }
 
--- sides whose lists and marks are told to be equal are the same
-pub same-from_equal : (a b : Side) → pointwise beq a.through.items b.through.items ≡ true
-    → pointwise (λ (x y : Vec ℕ Global). pointwise nat_eq x.items y.items) a.successors.items b.successors.items ≡ true → IsSameSide a b
+-- two sides are the same where the comparisons of their marks and of their lists say so
+pub same-from_equal : (a b : Side) → pointwise beq a.through.items b.through.items ≡ true → same_lists a b ≡ true → IsSameSide a b
 same-from_equal a b marks lists = record {
   successors = (slice_eq-Decides bytes_eq-Decides (lists_of a.successors.items) (lists_of b.successors.items) _ refl).0
       (pointwise-map (λ list. list.items) (pointwise nat_eq) a.successors.items b.successors.items ∙ lists);
   through = (slice_eq-Decides booleans_Decides a.through.items b.through.items _ refl).0 marks;
 }
 
+pub equal_marks-from_same : (a b : Side) → IsSameSide a b → pointwise beq a.through.items b.through.items ≡ true
+equal_marks-from_same a b same = (slice_eq-Decides booleans_Decides a.through.items b.through.items _ refl).1 same.through
+
+pub equal_lists-from_same : (a b : Side) → IsSameSide a b → same_lists a b ≡ true
+equal_lists-from_same a b same =
+    sym (pointwise-map (λ list. list.items) (pointwise nat_eq) a.successors.items b.successors.items)
+    ∙ (slice_eq-Decides bytes_eq-Decides (lists_of a.successors.items) (lists_of b.successors.items) _ refl).1 same.successors
+
 -- so the second side needs to be kept only where it differs
 pub IsSideOf-other : (column : Truth → Bool) (k : Known) (symbol : Symbol) (n : ℕ) (first second : Side) (other : Option Side) → IsOther first second other
     → IsSideOf column k symbol n second → IsSideOf column k symbol n (side_or first other)
 IsSideOf-other column k symbol n first second None is held = IsSideOf-same column k symbol n first second is held
-IsSideOf-other column k symbol n first second (Some side) is held = subst (IsSideOf column k symbol n) (sym is) held
+IsSideOf-other column k symbol n first second (Some side) is held = subst (IsSideOf column k symbol n) (sym is.0) held
 
 -- the marks of one element more
 pub searched-more : (must_side : Side) (may_side : Option Side) (old new : BTreeMap ℕ Marks) (x : ℕ) (marks : Marks)

@@ -48,16 +48,6 @@ pub record AreSearched (must_side : Side) (may_side : Option Side) (x : ℕ) (ma
   pub must_marks : AreMarksOf must_side x marks.must.items
   pub may_marks : AreMarksOf (side_or must_side may_side) x (marks_or marks.must.items marks.may)
 
--- both sides have the same steps and may be passed through at the same elements
-pub record IsSameSide (a b : Side) : Type 0 where
-  pub successors : map (λ list. list.items) a.successors.items ≡ map (λ list. list.items) b.successors.items
-  pub through : a.through.items ≡ b.through.items
-
--- the second side, where it isn't the same as the first
-abbrev pub IsOther : Side → Side → Option Side → Type 0
-IsOther first second None = IsSameSide first second
-IsOther first second (Some side) = side ≡ second
-
 -- these are the walks of a symbol's steps, and what was searched of them
 pub record AreWalksOf (k : Known) (symbol : Symbol) (walks : Walks) : Type 0 where
   pub must_side : IsSideOf must k symbol k.size walks.must

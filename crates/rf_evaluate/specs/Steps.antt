@@ -1,6 +1,6 @@
 -- Private: no public contract cites this.
 -- The steps of a symbol.
-use Rattle.std.specs.Prelude.{◌≡◌, ◌<◌, ◌==◌, ℕ, Bool, false, List, [], ◌∷◌, length, map, slice_index_or}
+use Rattle.std.specs.Prelude.{◌≡◌, ◌<◌, ◌==◌, ℕ, Bool, false, List, [], ◌∷◌, length, map, slice_index_or, Option, None, Some}
 use Rattle.std.specs.List.{list_any}
 use Rattle.rf_values.specs.Truth.{may, must}
 use Rattle.rf_values.specs.declared.truth.Truth.{Truth}
@@ -35,3 +35,13 @@ pub record IsSideOf (column : Truth → Bool) (k : Known) (symbol : Symbol) (n :
 pub record AreStepsOf (k : Known) (symbol : Symbol) (n : ℕ) (steps : Steps) : Type 0 where
   pub must_side : IsSideOf must k symbol n steps.must
   pub may_side : IsSideOf may k symbol n steps.may
+
+-- both sides have the same steps and may be passed through at the same elements
+pub record IsSameSide (a b : Side) : Type 0 where
+  pub successors : map (λ list. list.items) a.successors.items ≡ map (λ list. list.items) b.successors.items
+  pub through : a.through.items ≡ b.through.items
+
+-- the second side, where it isn't the same as the first
+abbrev pub IsOther : Side → Side → Option Side → Type 0
+IsOther first second None = IsSameSide first second
+IsOther first second (Some side) = (side ≡ second) × (IsSameSide first second → ⊥)

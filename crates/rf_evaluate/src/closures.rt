@@ -1,12 +1,12 @@
 //! Which walks there are, from the elements for which that was asked.
 
-ghost use Rattle.std.specs.Prelude.{◌≡◌, ◌<◌, ℕ, IsTrue, Some, true, false, IfOk, OnOk, slice_index_or};
+ghost use Rattle.std.specs.Prelude.{◌≡◌, ◌<◌, ◌↔◌, ℕ, IsTrue, Some, true, false, IfOk, OnOk, slice_index_or};
 ghost use Rattle.std.specs.BTreeMap.{get};
 ghost use Rattle.std.specs.Ordering.{nat_cmp};
 ghost use Rattle.rf_problem.specs.declared.symbol.Symbol.{Symbol};
-ghost use Rattle.rf_evaluate.specs.Kept.{AreKept, AreMarksOf, AreSearched, AreWalksOf, IsOther, IsSameSide, has, mark_of};
+ghost use Rattle.rf_evaluate.specs.Kept.{AreKept, AreMarksOf, AreSearched, AreWalksOf, has, mark_of};
 ghost use Rattle.rf_evaluate.specs.Known.{Known, walk_of};
-ghost use Rattle.rf_evaluate.specs.Steps.{AreStepsOf};
+ghost use Rattle.rf_evaluate.specs.Steps.{AreStepsOf, IsOther, IsSameSide};
 ghost use Rattle.rf_evaluate.specs.declared.closures.Marks.{Marks as MarksOf};
 
 use crate::steps::{Side, Steps};
@@ -58,7 +58,7 @@ struct Walks {
 }
 
 fn same(a: &Side, b: &Side) -> bool
-    ensures { IsTrue result → IsSameSide a.now b.now }
+    ensures { IsTrue result ↔ IsSameSide a.now b.now }
 {
     a.through.as_slice() == b.through.as_slice()
         && a.successors.as_slice() == b.successors.as_slice()
