@@ -5,7 +5,6 @@ use Rattle.std.proofs.lemmas.Bool.{and_parts, cases_Bool, eqb-true, false_from_n
 use Rattle.std.proofs.lemmas.List.{drop_all}
 use Rattle.std.proofs.lemmas.Option.{get_or_from_slice_get}
 use Rattle.rf_finite.proofs.Range.{None-ne_Some}
-use Rattle.rf_finite.specs.Range.{some_below}
 use Rattle.rf_problem.specs.Reading.{Assignment, Choice, Reading, assign, atoms_among, element_of, some_choice, symbol_true}
 use Rattle.rf_finite.specs.Walks.{walk_below}
 use Rattle.rf_problem.specs.Parts.{arity_of}
