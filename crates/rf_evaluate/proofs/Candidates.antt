@@ -22,7 +22,7 @@ place-of x (y ∷ xs) h = elim (or_cases (y == x) (list_any (λ z. z == x) xs) h
 ]
 
 -- an element that is one of them, by its number
-number-of : (elements : Elements) (x : ℕ) → includes elements x ≡ true → (i : ℕ) × (i < count elements) × (element_at elements i ≡ x)
+pub number-of : (elements : Elements) (x : ℕ) → includes elements x ≡ true → (i : ℕ) × (i < count elements) × (element_at elements i ≡ x)
 number-of (Below n) x h = (x, ltb-true x n h, refl)
 number-of (Listed items) x h = place-of x items.now h
 

@@ -5,5 +5,11 @@ pub mod Pending
 pub mod Unassigned
 pub mod Cells
 pub mod Narrowing
+pub mod EvaluationTruths
+pub mod EvaluationSymbols
+pub mod EvaluationTerms
+pub mod EvaluationMeasure
+pub mod EvaluationRows
+pub mod EvaluationStages
 pub mod StepLemmas
 pub mod WalkLemmas
