@@ -1,1 +1,5 @@
 pub mod Completing
+pub mod BothFirsts
+pub mod Conjunctions
+pub mod Independence
+pub mod TupleStages

@@ -7,3 +7,4 @@ pub mod Terms
 pub mod Evaluating
 pub mod Steps
 pub mod Kept
+pub mod Hunts

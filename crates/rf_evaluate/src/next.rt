@@ -2,6 +2,7 @@
 
 ghost use Rattle.std.specs.Prelude.{◌≡◌, ◌<◌, ℕ, IfSome, None, false, slice_index_or};
 ghost use Rattle.rf_evaluate.specs.Evaluating.{AreCandidates, IsSoundBody};
+ghost use Rattle.rf_evaluate.specs.Hunts.{AreRefuted};
 
 use crate::assignment::element_of;
 use crate::elements::Elements;
@@ -155,6 +156,7 @@ pub fn next_variable<'k, K: Knowledge>(
 ) -> Option<Next<'k>>
     requires { IsSoundBody (K.known known.now) body.now }
     ensures candidates { IfSome result (λ next. AreCandidates (K.known known.now) body.now stage.now next.variable next.elements) }
+    ensures refuted { IfSome result (λ next. AreRefuted (K.known known.now) body.now stage.now next.variable next.elements) }
     ensures none { result ≡ None → (v : ℕ) → v < 8 → slice_index_or stage.now.unassigned v false ≡ false }
 {
     let parameter = listed_below(known, body, stage, arity);
