@@ -22,7 +22,7 @@ order_code Less = true
 order_code Equal = false
 order_code Greater = false
 
-Less-ne_Greater : Less ≡ Greater → ⊥
+pub Less-ne_Greater : Less ≡ Greater → ⊥
 Less-ne_Greater e = absurd (true≢false (ap order_code e))
 
 module _ {X : Type 0} (cmp : X → X → Ordering) (order : IsTotalOrder cmp) where

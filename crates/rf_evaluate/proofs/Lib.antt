@@ -3,3 +3,4 @@ pub mod BothFirsts
 pub mod Conjunctions
 pub mod Independence
 pub mod TupleStages
+pub mod Reached
