@@ -74,12 +74,10 @@ module _ {X : Type 0} (cmp : X → X → Ordering) (order : IsTotalOrder cmp) wh
       go z less p Equal e = hb.first x (sym (order.congr z x y e) ∙ less) (inl refl)
       go z less p Greater e = hb.first x (order.trans x z y (order.antisymm x z ∙ ap ordering_reverse e) less) (inl refl)
 
-  -- what is passed on
-  pub property-from_IsFirstOfBoth : (Q R : X → Type 0) (best o : Option X) → IsFirstOfBoth cmp best Q o → ((x : X) → best ≡ Some x → R x) → ((x : X) → Q x → R x)
-      → (x : X) → o ≡ Some x → R x
-  property-from_IsFirstOfBoth Q R best None h before now x e = absurd (None-ne_Some e)
-  property-from_IsFirstOfBoth Q R best (Some y) h before now x e =
-      subst R (same-from_Some y x e) (elim h.passes [ inl b ↦ before y b | inr q ↦ now y q ])
+  -- what all that pass have, the first has
+  pub property-from_IsFirstOf : (P R : X → Type 0) (o : Option X) → IsFirstOf cmp P o → ((x : X) → P x → R x) → (x : X) → o ≡ Some x → R x
+  property-from_IsFirstOf P R None h all x e = absurd (None-ne_Some e)
+  property-from_IsFirstOf P R (Some y) h all x e = subst R (same-from_Some y x e) (all y h.passes)
 
 -- of two tuples, the one with the greater first element doesn't come before the other
 pub not_before-greater : (t u : List ℕ) (x y : ℕ) → y < x → slice_cmp nat_cmp (x ∷ t) (y ∷ u) ≡ Less → ⊥

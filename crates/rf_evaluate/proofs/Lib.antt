@@ -4,3 +4,4 @@ pub mod Conjunctions
 pub mod Independence
 pub mod TupleStages
 pub mod Reached
+pub mod Remaining

@@ -1,5 +1,5 @@
 -- Which tuples are reached from a stage, and from the stages after it.
-use Rattle.std.proofs.Common.{◌≡◌, ◌≢◌, ℕ, zero, suc, ◌+◌, ◌-◌, ◌<◌, ◌≤◌, Bool, true, false, ◌&&◌, ◌==◌, if◌then◌else◌, Option, Some, None, List, [], ◌∷◌, ◌⊎◌, length, length-set, set, take, get_or, get_or-set_same, get_or-set_other, get_or-take, length-take-le, All, nat_cmp, refl, sym, ap, ap₂, ◌∙◌, subst, inl, inr, arith, true≢false, slice_index, slice_index_or, slice_get, Less, ltb, lt-ltb, le-ltb, ltb-true, eqb-true, nat_lt}
+use Rattle.std.proofs.Common.{◌≡◌, ◌≢◌, ℕ, zero, suc, ◌+◌, ◌-◌, ◌<◌, ◌≤◌, Bool, true, false, ◌&&◌, ◌==◌, if◌then◌else◌, Option, Some, None, List, [], ◌∷◌, ◌⊎◌, length, set, take, get_or, get_or-set_same, get_or-set_other, get_or-take, length-take-le, All, nat_cmp, refl, sym, ap, ap₂, ◌∙◌, subst, inl, inr, arith, true≢false, slice_index, slice_index_or, slice_get, Less, ltb, lt-ltb, le-ltb, ltb-true, eqb-true, nat_lt}
 use Rattle.std.specs.List.{list_any}
 use Rattle.std.specs.Cmp.Lexicographic.{slice_cmp}
 use Rattle.std.proofs.lemmas.Bool.{cases_Bool, cases_lt, cases_order, or_cases}
@@ -26,13 +26,12 @@ use Rattle.rf_evaluate.proofs.Conjunctions.{conjunction-False, conjunction-assoc
 use Rattle.rf_evaluate.proofs.Independence.{literal_value-same, names_unassigned-fewer}
 use Rattle.rf_evaluate.proofs.TupleStages.{assigned-same, assigned-still, later-assigned, length-elements, length-unassigned, with_tuple-first, with_tuple-later, with_tuple-same}
 
--- a stage has eight variables and thirty-six literals
+-- a stage has eight variables
 pub record IsFull (s : Stage) : Type 0 where
   pub elements : length s.elements ≡ 8
   pub unassigned : length s.unassigned ≡ 8
-  pub pending : length s.pending ≡ 36
 
-within-true : (xs : List Bool) (i : ℕ) → slice_index_or xs i false ≡ true → i < length xs
+pub within-true : (xs : List Bool) (i : ℕ) → slice_index_or xs i false ≡ true → i < length xs
 within-true xs i e = elim (cases_lt i (length xs)) [ inl l ↦ l | inr g ↦ absurd (true≢false (sym e ∙ get_or_past xs i false g)) ]
 
 -- an element that comes into question has a number
@@ -65,9 +64,6 @@ GoesOn-without : (s : Stage) (t : List ℕ) (v x : ℕ) → slice_index_or s.una
 GoesOn-without s t v x open_at on u m e =
     let apart : u ≡ v → ⊥ = λ q. absurd (true≢false (sym open_at ∙ subst (λ (w : ℕ). slice_index_or s.unassigned w false ≡ false) q e)) in
     on u m (get_or-set_other s.unassigned v u false false (λ q. apart q) ∙ e) ∙ get_or-set_other s.elements v u x 0 (λ q. apart q)
-
-IsFull-with : (s : Stage) (v x : ℕ) → IsFull s → IsFull (with_element s v x)
-IsFull-with s v x full = record { elements = length-set s.elements v x ∙ full.elements; unassigned = length-set s.unassigned v false ∙ full.unassigned; pending = full.pending }
 
 value_with-parameter : (k : Known) (arity v : ℕ) (value : Truth) (x : ℕ) → v < arity → value_with k arity v value x ≡ value
 value_with-parameter k arity v value x l = ap (λ (y : Bool). if y then value else conjunction value (k.presence x)) (lt-ltb v arity l)
