@@ -5,3 +5,4 @@ pub mod Independence
 pub mod TupleStages
 pub mod Reached
 pub mod Remaining
+pub mod Searching
