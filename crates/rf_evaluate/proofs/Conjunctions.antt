@@ -1,25 +1,14 @@
 -- Where truths of facts together are false.
 use Rattle.std.proofs.Common.{◌≡◌, ◌≢◌, ℕ, zero, suc, ◌+◌, ◌<◌, ◌≤◌, Bool, true, false, ◌&&◌, ◌||◌, Option, Some, None, List, [], ◌∷◌, ◌⊎◌, length, refl, sym, ap, ap₂, ◌∙◌, inl, inr, arith, true≢false, slice_get}
 use Rattle.std.specs.List.{list_any}
-use Rattle.std.proofs.lemmas.Bool.{cases_order}
+use Rattle.std.proofs.lemmas.Bool.{cases_order, or_parts}
 use Rattle.rf_values.specs.Truth.{conjunction, disjunction, may, must, truth_of}
 use Rattle.rf_values.specs.declared.truth.Truth.{Truth}
 use Rattle.rf_values.specs.declared.truth.Truth.TheVariants.{True, False, Unknown, Error}
 use Rattle.rf_evaluate.specs.Evaluating.{some_truth}
 use Rattle.rf_finite.proofs.Range.{None-ne_Some}
+use Rattle.rf_evaluate.proofs.InBoth.{conjunction-False, may-truth_of, must-truth_of}
 use Rattle.rf_evaluate.proofs.BothFirsts.{same-from_Some}
-
-must-truth_of : (m n : Bool) → must (truth_of m n) ≡ m
-must-truth_of true true = refl
-must-truth_of false false = refl
-must-truth_of false true = refl
-must-truth_of true false = refl
-
-may-truth_of : (m n : Bool) → may (truth_of m n) ≡ n
-may-truth_of true true = refl
-may-truth_of false false = refl
-may-truth_of false true = refl
-may-truth_of true false = refl
 
 -- a pair is false where both of it are
 pub parts-from_False : (m n : Bool) → truth_of m n ≡ False → (m ≡ false) × (n ≡ false)
@@ -45,12 +34,6 @@ conjunction-assoc a b c = ap₂ truth_of
     ∙ ap (λ x. x && must c) (sym (must-truth_of (must a && must b) (may a && may b)))))
     (ap (λ x. may a && x) (may-truth_of (must b && must c) (may b && may c)) ∙ (and-assoc (may a) (may b) (may c)
     ∙ ap (λ x. x && may c) (sym (may-truth_of (must a && must b) (may a && may b)))))
-
-pub conjunction-False : (a : Truth) → conjunction a False ≡ False
-conjunction-False True = refl
-conjunction-False False = refl
-conjunction-False Unknown = refl
-conjunction-False Error = refl
 
 pub conjunction-True : (a : Truth) → conjunction True a ≡ a
 conjunction-True True = refl
@@ -120,10 +103,6 @@ each-from_some_truth a (suc n) f i l e = elim (cases_order i n) [
   ]
 ]
 
-pub none-here : (x y : Bool) → (x || y) ≡ false → (x ≡ false) × (y ≡ false)
-none-here false y e = (refl, e)
-none-here true y e = absurd (true≢false e)
-
 module _ {X : Type 0} (p r : X → Bool) where
   -- where the value of a list of facts isn't false, that of one of them isn't
   pub one-from_list_any : (xs : List X) → truth_of (list_any p xs) (list_any r xs) ≢ False
@@ -143,7 +122,7 @@ module _ {X : Type 0} (p r : X → Bool) where
   each-from_list_any (y ∷ ys) zero x there e =
       let parts = parts-from_False (p y || list_any p ys) (r y || list_any r ys) e in
       let same = same-from_Some y x there in
-      ap (λ z. truth_of (p z) (r z)) (sym same) ∙ False-from_parts (p y) (r y) (none-here (p y) (list_any p ys) parts.0).0 (none-here (r y) (list_any r ys) parts.1).0
+      ap (λ z. truth_of (p z) (r z)) (sym same) ∙ False-from_parts (p y) (r y) (or_parts (p y) (list_any p ys) parts.0).0 (or_parts (r y) (list_any r ys) parts.1).0
   each-from_list_any (y ∷ ys) (suc place) x there e =
       let parts = parts-from_False (p y || list_any p ys) (r y || list_any r ys) e in
-      each-from_list_any ys place x there (False-from_parts (list_any p ys) (list_any r ys) (none-here (p y) (list_any p ys) parts.0).1 (none-here (r y) (list_any r ys) parts.1).1)
+      each-from_list_any ys place x there (False-from_parts (list_any p ys) (list_any r ys) (or_parts (p y) (list_any p ys) parts.0).1 (or_parts (r y) (list_any r ys) parts.1).1)

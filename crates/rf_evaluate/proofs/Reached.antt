@@ -14,41 +14,24 @@ use Rattle.rf_problem.specs.declared.predicate.Literal.{Literal}
 use Rattle.rf_evaluate.specs.Elements.{AreBelow, count, element_at, includes}
 use Rattle.rf_evaluate.specs.declared.elements.Elements.{Elements}
 use Rattle.rf_evaluate.specs.declared.elements.Elements.TheVariants.{Below, Listed}
-use Rattle.rf_evaluate.specs.Evaluating.{AreCandidates, completed_value, completed_with, literal_value, some_truth, with_element, without_literal}
-use Rattle.rf_evaluate.specs.Hunts.{AreClosed, AreRefuted, GoesOn, IsOfArity, IsPast, IsPlaced, IsReached, IsReachedWith, IsRefuted, value_with, with_tuple}
+use Rattle.rf_evaluate.specs.Evaluating.{AreCandidates, IsRefuted, completed_value, completed_with, literal_value, some_truth, with_element, without_literal}
+use Rattle.rf_evaluate.specs.Hunts.{AreClosed, GoesOn, IsOfArity, IsPast, IsPlaced, IsReached, IsReachedWith, value_with, with_tuple}
 use Rattle.rf_evaluate.specs.Known.{Known}
 use Rattle.rf_evaluate.specs.Terms.{names_unassigned}
 use Rattle.rf_evaluate.specs.declared.stage.Body.{Body}
 use Rattle.rf_evaluate.specs.declared.stage.Stage.{Stage}
 use Rattle.rf_evaluate.proofs.BothFirsts.{Less-ne_Greater, not_before-greater, same-from_Some}
-use Rattle.rf_evaluate.proofs.Completing.{completed-chosen, completed-evaluated}
-use Rattle.rf_evaluate.proofs.Conjunctions.{conjunction-False, conjunction-assoc, each-from_some_truth, one-from_some_truth}
-use Rattle.rf_evaluate.proofs.Independence.{literal_value-same, names_unassigned-fewer}
+use Rattle.rf_evaluate.proofs.Candidates.{element_at-below, number-of}
+use Rattle.rf_evaluate.proofs.Completing.{completed-chosen, completed-evaluated, marked-within}
+use Rattle.rf_evaluate.proofs.Conjunctions.{conjunction-assoc, each-from_some_truth, one-from_some_truth}
+use Rattle.rf_evaluate.proofs.InBoth.{conjunction-False}
+use Rattle.rf_evaluate.proofs.Independence.{literal_value-agreeing, names_unassigned-fewer}
 use Rattle.rf_evaluate.proofs.TupleStages.{assigned-same, assigned-still, later-assigned, length-elements, length-unassigned, with_tuple-first, with_tuple-later, with_tuple-same}
 
 -- a stage has eight variables
 pub record IsFull (s : Stage) : Type 0 where
   pub elements : length s.elements ≡ 8
   pub unassigned : length s.unassigned ≡ 8
-
-pub within-true : (xs : List Bool) (i : ℕ) → slice_index_or xs i false ≡ true → i < length xs
-within-true xs i e = elim (cases_lt i (length xs)) [ inl l ↦ l | inr g ↦ absurd (true≢false (sym e ∙ get_or_past xs i false g)) ]
-
--- an element that comes into question has a number
-number-in_list : (xs : List ℕ) (x : ℕ) → list_any (λ y. y == x) xs ≡ true → (n : ℕ) × (n < length xs) × (slice_index xs n ≡ x)
-number-in_list [] x e = absurd (true≢false (sym e))
-number-in_list (y ∷ ys) x e = elim (or_cases (y == x) (list_any (λ y. y == x) ys) e) [
-  | inl h ↦ (0, omega arith, eqb-true y x h)
-  | inr m ↦ (let one = number-in_list ys x m in let less : one.0 < length ys = one.1 in (suc one.0, omega (arith, less), one.2))
-]
-
-number-of : (elements : Elements) (x : ℕ) → includes elements x ≡ true → (n : ℕ) × (n < count elements) × (element_at elements n ≡ x)
-number-of (Below m) x e = (x, ltb-true x m e, refl)
-number-of (Listed items) x e = number-in_list items.now x e
-
-pub element_at-below : (size : ℕ) (elements : Elements) (n : ℕ) → AreBelow size elements → n < count elements → element_at elements n < size
-element_at-below size (Below m) n h l = omega arith
-element_at-below size (Listed items) n h l = All-get_or (λ x. x < size) items.now n 0 l h
 
 -- a tuple that goes on from a stage goes on from it with its own element for a variable
 GoesOn-with : (s : Stage) (t : List ℕ) (v x : ℕ) → IsFull s → v < 8 → GoesOn s t → (v < length t → slice_index t v ≡ x) → GoesOn (with_element s v x) t
@@ -77,10 +60,10 @@ module _ (k : Known) (b : Body) (passes : List ℕ → Bool) (arity : ℕ) where
       → names_unassigned s.unassigned l ≡ false → GoesOn s t
       → completed_value k b (with_tuple s t) ≡ conjunction (literal_value k b i l (slice_index s.elements)) (completed_value k b (with_tuple (without_literal s i) t))
   value-evaluated s i l t pending there ground on =
-      completed-evaluated k b (with_tuple s t) i l (within-true s.pending i pending) pending there
+      completed-evaluated k b (with_tuple s t) i l (marked-within s.pending i pending) pending there
       (names_unassigned-fewer s.unassigned (with_tuple s t).unassigned l (assigned-still s t) ground)
       ∙ ap (λ (y : Truth). conjunction y (completed_value k b (with_tuple (without_literal s i) t)))
-      (literal_value-same k b i l s.unassigned (slice_index (with_tuple s t).elements) (slice_index s.elements) (assigned-same s t on) ground)
+      (literal_value-agreeing k b i l s.unassigned (slice_index (with_tuple s t).elements) (slice_index s.elements) (assigned-same s t on) ground)
 
   -- what is reached before the evaluation of a literal is reached after it
   pub IsReached-without : (s : Stage) (i : ℕ) (l : Literal) (value own : Truth) (t : List ℕ) → slice_index_or s.pending i false ≡ true → slice_get b.literals.now i ≡ Some l
@@ -143,8 +126,8 @@ module _ (k : Known) (b : Body) (passes : List ℕ → Bool) (arity : ℕ) where
 
   -- and that is a candidate
   pub IsReachedWith-from_IsReached : (s : Stage) (value : Truth) (v : ℕ) (elements : Elements) (t : List ℕ) → IsFull s → arity ≤ 4 → AreCandidates k b s v elements
-      → AreRefuted k b s v elements → IsReached k b passes arity s value t → IsReachedWith k b passes arity s value v elements (count elements) t
-  IsReachedWith-from_IsReached s value v elements t full few candidates refuted h =
+      → IsReached k b passes arity s value t → IsReachedWith k b passes arity s value v elements (count elements) t
+  IsReachedWith-from_IsReached s value v elements t full few candidates h =
       let one = chosen s value v t full few candidates.variable candidates.unassigned h in
       elim (cases_Bool (includes elements one.0)) [
         | inl is ↦ (let n = number-of elements one.0 is in record {
@@ -153,7 +136,7 @@ module _ (k : Known) (b : Body) (passes : List ℕ → Bool) (arity : ℕ) where
           reached = subst (λ (x : ℕ). IsReached k b passes arity (with_element s v x) (value_with k arity v value x) t) (sym n.2) one.2;
         })
         | inr isnt ↦ absurd (one.2.possible (ap (conjunction (value_with k arity v value one.0))
-          (refuted-value (with_element s v one.0) t (refuted one.0 one.1 isnt) one.2.goes_on) ∙ conjunction-False (value_with k arity v value one.0)))
+          (refuted-value (with_element s v one.0) t (candidates.others one.0 one.1 isnt) one.2.goes_on) ∙ conjunction-False (value_with k arity v value one.0)))
       ]
 
   -- what is reached with an element is reached

@@ -3,7 +3,7 @@ use Rattle.std.proofs.Common.{◌≡◌, ℕ, ◌+◌, ◌<◌, Bool, true, fals
 use Rattle.std.proofs.lemmas.List.Sums.{sum_by-set}
 use Rattle.rf_evaluate.specs.Evaluating.{with_element, without_literal}
 use Rattle.rf_evaluate.specs.declared.stage.Stage.{Stage}
-use Rattle.rf_evaluate.proofs.Reached.{within-true}
+use Rattle.rf_evaluate.proofs.Completing.{marked-within}
 
 abbrev pub one_if : Bool → ℕ
 one_if true = 1
@@ -15,7 +15,7 @@ remaining s = sum_by one_if s.unassigned + sum_by one_if s.pending
 sum_by-fewer : (xs : List Bool) (i : ℕ) → slice_index_or xs i false ≡ true → sum_by one_if (set xs i false) + 1 ≡ sum_by one_if xs
 sum_by-fewer xs i e =
     let once : one_if (get_or xs i false) ≡ 1 = ap one_if e in
-    let all : sum_by one_if (set xs i false) + one_if (get_or xs i false) ≡ sum_by one_if xs + 0 = sum_by-set one_if xs i false false (within-true xs i e) in
+    let all : sum_by one_if (set xs i false) + one_if (get_or xs i false) ≡ sum_by one_if xs + 0 = sum_by-set one_if xs i false false (marked-within xs i e) in
     omega (arith, once, all)
 
 -- they get fewer

@@ -12,7 +12,7 @@ use Rattle.rf_problem.specs.declared.predicate.Literal.{Literal}
 use Rattle.rf_evaluate.specs.Elements.{count, element_at}
 use Rattle.rf_evaluate.specs.declared.elements.Elements.{Elements}
 use Rattle.rf_evaluate.specs.Evaluating.{AreCandidates, completed_value, literal_value, with_element, without_literal}
-use Rattle.rf_evaluate.specs.Hunts.{AreRefuted, IsFirstOfBoth, IsOfArity, IsPast, IsPlaced, IsReached, IsReachedWith, value_with, with_tuple}
+use Rattle.rf_evaluate.specs.Hunts.{IsFirstOfBoth, IsOfArity, IsPast, IsPlaced, IsReached, IsReachedWith, value_with, with_tuple}
 use Rattle.rf_evaluate.specs.Known.{Known}
 use Rattle.rf_evaluate.specs.Terms.{names_unassigned}
 use Rattle.rf_evaluate.specs.declared.stage.Body.{Body}
@@ -106,14 +106,14 @@ module _ (k : Known) (b : Body) (passes : List ℕ → Bool) (arity : ℕ) (s : 
         (λ t r. let l : r.number < 0 = r.before in absurd (omega (arith, l)))
 
     -- with all of them
-    pub first-with_all : (n : ℕ) (o : Option (List ℕ)) → IsFull s → arity ≤ 4 → AreCandidates k b s v elements → AreRefuted k b s v elements → n ≡ count elements
+    pub first-with_all : (n : ℕ) (o : Option (List ℕ)) → IsFull s → arity ≤ 4 → AreCandidates k b s v elements → n ≡ count elements
         → IsFirstOfBoth (slice_cmp nat_cmp) best (IsReachedWith k b passes arity s value v elements n) o → IsFirstOfBoth (slice_cmp nat_cmp) best (IsReached k b passes arity s value) o
-    first-with_all n o full few candidates refuted all h =
+    first-with_all n o full few candidates all h =
         IsFirstOf-same (slice_cmp nat_cmp) (λ t. (best ≡ Some t) ⊎ IsReachedWith k b passes arity s value v elements n t)
         (λ t. (best ≡ Some t) ⊎ IsReached k b passes arity s value t) o
         (λ t c. elim c [ inl e ↦ inl e | inr r ↦ inr (IsReached-from_IsReachedWith k b passes arity s value v elements n t full few candidates (omega (arith, all)) r) ])
         (λ t c. elim c [ inl e ↦ inl e | inr r ↦ inr (subst (λ (m : ℕ). IsReachedWith k b passes arity s value v elements m t) (sym all)
-          (IsReachedWith-from_IsReached k b passes arity s value v elements t full few candidates refuted r)) ])
+          (IsReachedWith-from_IsReached k b passes arity s value v elements t full few candidates r)) ])
         h
 
     -- the best so far is of as many elements

@@ -5,7 +5,7 @@ use Rattle.std.proofs.lemmas.List.{drop-set-add, get_or-append_right, get_or_app
 use Rattle.rf_evaluate.specs.Evaluating.{with_element, without_literal}
 use Rattle.rf_evaluate.specs.Hunts.{AreClosed, GoesOn, with_tuple}
 use Rattle.rf_evaluate.specs.declared.stage.Stage.{Stage}
-use Rattle.rf_evaluate.proofs.Independence.{AgreeAssigned}
+use Rattle.rf_evaluate.proofs.Unassigned.{AgreeOutside}
 
 module _ {A : Type 0} (xs ys : List A) (n : ℕ) (same : length xs ≡ n) where
   -- the first n of a list replaced
@@ -92,5 +92,5 @@ module _ (s : Stage) (t : List ℕ) where
   assigned-still u e = elim (cases_lt u (length t)) [ inl l ↦ first-assigned u l | inr g ↦ later-assigned u g ∙ e ]
 
   -- the elements of the assigned variables stay
-  pub assigned-same : GoesOn s t → AgreeAssigned s.unassigned (slice_index (with_tuple s t).elements) (slice_index s.elements)
+  pub assigned-same : GoesOn s t → AgreeOutside s.unassigned (slice_index (with_tuple s t).elements) (slice_index s.elements)
   assigned-same on u e = elim (cases_lt u (length t)) [ inl l ↦ first-element u l ∙ on u l e | inr g ↦ later-element u g ]

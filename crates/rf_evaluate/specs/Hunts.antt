@@ -8,27 +8,13 @@ use Rattle.rf_values.specs.Truth.{conjunction}
 use Rattle.rf_values.specs.declared.truth.Truth.{Truth}
 use Rattle.rf_values.specs.declared.truth.Truth.TheVariants.{False}
 use Rattle.rf_problem.specs.declared.predicate.Clause.{Clause}
-use Rattle.rf_problem.specs.declared.predicate.Literal.{Literal}
-use Rattle.rf_evaluate.specs.Elements.{element_at, includes}
-use Rattle.rf_evaluate.specs.Evaluating.{clause_value, completed_value, literal_value, with_element}
+use Rattle.rf_evaluate.specs.Elements.{element_at}
+use Rattle.rf_evaluate.specs.Evaluating.{clause_value, completed_value, with_element}
 use Rattle.rf_evaluate.specs.Known.{Known}
-use Rattle.rf_evaluate.specs.Terms.{AreElements, names_unassigned}
+use Rattle.rf_evaluate.specs.Terms.{AreElements}
 use Rattle.rf_evaluate.specs.declared.elements.Elements.{Elements}
 use Rattle.rf_evaluate.specs.declared.stage.Body.{Body}
 use Rattle.rf_evaluate.specs.declared.stage.Stage.{Stage}
-
--- a literal is left that names no unassigned variable and is false
-pub record IsRefuted (k : Known) (b : Body) (s : Stage) : Type 0 where
-  pub place : ℕ
-  pub literal : Literal
-  pub there : slice_get b.literals.now place ≡ Some literal
-  pub pending : slice_index_or s.pending place false ≡ true
-  pub ground : names_unassigned s.unassigned literal ≡ false
-  pub refuted : literal_value k b place literal (slice_index s.elements) ≡ False
-
--- so it is with any other element than these for a variable
-abbrev pub AreRefuted : Known → Body → Stage → ℕ → Elements → Type 0
-AreRefuted k b s v elements = (x : ℕ) → x < k.size → includes elements x ≡ false → IsRefuted k b (with_element s v x)
 
 -- the first of the best so far and what passes
 abbrev pub IsFirstOfBoth : {X : Type 0} → (X → X → Ordering) → Option X → (X → Type 0) → Option X → Type 0

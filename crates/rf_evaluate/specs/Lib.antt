@@ -8,3 +8,4 @@ pub mod Evaluating
 pub mod Steps
 pub mod Kept
 pub mod Hunts
+pub mod Narrowing

@@ -1,10 +1,8 @@
 -- Private: no public contract cites this.
--- The steps of a symbol, and the walks of them that were searched.
-use Rattle.std.specs.Prelude.{◌≡◌, ◌<◌, ◌==◌, ℕ, Bool, false, IfSome, List, [], ◌∷◌, filter, length, map, slice_index_or, Vec}
+-- The steps of a symbol.
+use Rattle.std.specs.Prelude.{◌≡◌, ◌<◌, ◌==◌, ℕ, Bool, false, List, [], ◌∷◌, length, map, slice_index_or}
 use Rattle.std.specs.List.{list_any}
-use Rattle.std.specs.BTreeMap.{BTreeMap, get}
-use Rattle.rf_finite.specs.Walks.{walk_below}
-use Rattle.rf_values.specs.Truth.{may, must, truth_of}
+use Rattle.rf_values.specs.Truth.{may, must}
 use Rattle.rf_values.specs.declared.truth.Truth.{Truth}
 use Rattle.rf_closure.specs.Along.{leads}
 use Rattle.rf_problem.specs.declared.symbol.Symbol.{Symbol}

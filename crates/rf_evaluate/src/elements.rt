@@ -30,7 +30,10 @@ impl Elements<'_> {
     {
         match self {
             Elements::Below(_) => number,
-            Elements::Listed(items) => items[number as usize],
+            Elements::Listed(items) => match items.get(number as usize) {
+                Some(x) => *x,
+                None => 0,
+            },
         }
     }
 }

@@ -1,8 +1,9 @@
 //! Which variable gets its element next, and which elements come into question for it.
 
-ghost use Rattle.std.specs.Prelude.{◌≡◌, ◌<◌, ℕ, IfSome, None, false, slice_index_or};
-ghost use Rattle.rf_evaluate.specs.Evaluating.{AreCandidates, IsSoundBody};
-ghost use Rattle.rf_evaluate.specs.Hunts.{AreRefuted};
+ghost use Rattle.std.specs.Prelude.{◌≡◌, ◌<◌, ◌∷◌, ℕ, IfSome, IsTrue, None, [], false, true, length, slice_index_or};
+ghost use Rattle.rf_evaluate.specs.Evaluating.{AreCandidates, IsSoundBody, standing};
+ghost use Rattle.rf_evaluate.specs.Known.{declares};
+ghost use Rattle.rf_evaluate.specs.Narrowing.{AwaitsElement, IsAnchor, IsOnlyElement, Narrows, declares_called};
 
 use crate::assignment::element_of;
 use crate::elements::Elements;
@@ -18,7 +19,9 @@ pub struct Next<'k> {
 }
 
 /// The only element that comes from an atom, where one alone is listed.
-fn only_element<K: Knowledge>(known: &K, atom: u64) -> Option<u64> {
+fn only_element<K: Knowledge>(known: &K, atom: u64) -> Option<u64>
+    ensures { IfSome result (IsOnlyElement (K.known known.now) atom) }
+{
     match known.from_object(atom) {
         Elements::Below(_) => None,
         Elements::Listed(items) => {
@@ -32,7 +35,9 @@ fn only_element<K: Knowledge>(known: &K, atom: u64) -> Option<u64> {
 }
 
 /// The element that a term stands for, if it is known.
-fn anchor<K: Knowledge>(known: &K, stage: &Stage, term: Term) -> Option<u64> {
+fn anchor<K: Knowledge>(known: &K, stage: &Stage, term: Term) -> Option<u64>
+    ensures { IfSome result (IsAnchor (K.known known.now) stage.now term) }
+{
     match term {
         Term::Var(v) => match stage.unassigned.get(v as usize) {
             Some(is_unassigned) => {
@@ -48,8 +53,10 @@ fn anchor<K: Knowledge>(known: &K, stage: &Stage, term: Term) -> Option<u64> {
     }
 }
 
-/// The number of a variable that is to get its element.
-fn unassigned_variable(stage: &Stage, term: Term, end: usize) -> Option<usize> {
+/// The number of a variable below `end` that is to get its element.
+fn unassigned_variable(stage: &Stage, term: Term, end: usize) -> Option<usize>
+    ensures { IfSome result (AwaitsElement stage.now term) }
+{
     match term {
         Term::Var(v) => match stage.unassigned.get(v as usize) {
             Some(is_unassigned) => {
@@ -66,11 +73,50 @@ fn unassigned_variable(stage: &Stage, term: Term, end: usize) -> Option<usize> {
 }
 
 /// The elements, where they are listed.
-fn listed<'k>(variable: usize, elements: Elements<'k>) -> Option<Next<'k>> {
+fn listed<'k>(variable: usize, elements: Elements<'k>) -> Option<Next<'k>>
+    ensures variable { IfSome result (λ next. next.variable ≡ variable) }
+    ensures elements { IfSome result (λ next. next.elements ≡ elements.entry) }
+{
     match elements {
         Elements::Below(_) => None,
         Elements::Listed(_) => Some(Next { variable, elements }),
     }
+}
+
+/// A variable below `end` to which an edge of a reference leads, where it is known from where.
+fn edge_to_variable<'k, K: Knowledge>(
+    known: &'k K,
+    stage: &Stage,
+    reference: u32,
+    a: Term,
+    b: Term,
+    end: usize,
+) -> Option<Next<'k>>
+    requires { reference < length (K.known known.now).problem.references }
+    ensures { IfSome result (λ next. Narrows (K.known known.now) stage.now
+        (Literal.Call false false (Symbol.Reference reference) (a ∷ b ∷ [])) next.variable next.elements) }
+{
+    let v = unassigned_variable(stage, b, end)?;
+    let x = anchor(known, stage, a)?;
+    listed(v, known.ends_from(reference, x))
+}
+
+/// A variable below `end` from which an edge of a reference leads, where it is known where to.
+fn edge_from_variable<'k, K: Knowledge>(
+    known: &'k K,
+    stage: &Stage,
+    reference: u32,
+    a: Term,
+    b: Term,
+    end: usize,
+) -> Option<Next<'k>>
+    requires { reference < length (K.known known.now).problem.references }
+    ensures { IfSome result (λ next. Narrows (K.known known.now) stage.now
+        (Literal.Call false false (Symbol.Reference reference) (a ∷ b ∷ [])) next.variable next.elements) }
+{
+    let v = unassigned_variable(stage, a, end)?;
+    let y = anchor(known, stage, b)?;
+    listed(v, known.ends_into(reference, y))
 }
 
 /// A variable below `end` at one end of an edge of a reference, whose other end is known.
@@ -78,41 +124,64 @@ fn along_edge<'k, K: Knowledge>(
     known: &'k K,
     stage: &Stage,
     reference: u32,
-    a: Term,
-    b: Term,
+    args: &[Term],
     end: usize,
-) -> Option<Next<'k>> {
-    if let Some(v) = unassigned_variable(stage, b, end) {
-        let x = anchor(known, stage, a)?;
-        return listed(v, known.ends_from(reference, x));
+) -> Option<Next<'k>>
+    requires { reference < length (K.known known.now).problem.references }
+    ensures { IfSome result (λ next. Narrows (K.known known.now) stage.now
+        (Literal.Call false false (Symbol.Reference reference) args.now) next.variable next.elements) }
+{
+    if args.len() != 2 {
+        return None;
     }
-    let v = unassigned_variable(stage, a, end)?;
-    let y = anchor(known, stage, b)?;
-    listed(v, known.ends_into(reference, y))
+    let next = edge_to_variable(known, stage, reference, args[0], args[1], end);
+    if next.is_some() {
+        return next;
+    }
+    edge_from_variable(known, stage, reference, args[0], args[1], end)
+}
+
+/// The same for a symbol, where it is a reference.
+fn along_symbol<'k, K: Knowledge>(
+    known: &'k K,
+    stage: &Stage,
+    symbol: Symbol,
+    args: &[Term],
+    end: usize,
+) -> Option<Next<'k>>
+    requires { IsTrue (declares (K.known known.now).problem symbol) }
+    ensures { IfSome result (λ next. Narrows (K.known known.now) stage.now
+        (Literal.Call false false symbol args.now) next.variable next.elements) }
+{
+    match symbol {
+        Symbol::Reference(r) => along_edge(known, stage, r, args, end),
+        _ => None,
+    }
 }
 
 /// The same for a literal, where it asks for an edge.
 fn along_literal<'k, K: Knowledge>(
     known: &'k K,
-    body: &Body<'_>,
     stage: &Stage,
-    i: usize,
+    literal: &Literal,
+    is_inner: bool,
     end: usize,
-) -> Option<Next<'k>> {
-    match &body.literals[i] {
+) -> Option<Next<'k>>
+    requires { IsTrue (declares_called (K.known known.now).problem literal.now) }
+    ensures { IfSome result (λ next. Narrows (K.known known.now) stage.now
+        (standing is_inner literal.now) next.variable next.elements) }
+{
+    match literal {
         Literal::Call {
             negated,
             closure,
             symbol,
             args,
         } => {
-            if *closure || (*negated && !body.is_inner) || args.len() != 2 {
+            if *closure || (*negated && !is_inner) {
                 return None;
             }
-            match symbol {
-                Symbol::Reference(r) => along_edge(known, stage, *r, args[0], args[1], end),
-                _ => None,
-            }
+            along_symbol(known, stage, *symbol, args.as_slice(), end)
         }
         _ => None,
     }
@@ -124,10 +193,13 @@ fn listed_below<'k, K: Knowledge>(
     body: &Body<'_>,
     stage: &Stage,
     end: usize,
-) -> Option<Next<'k>> {
-    for i in 0..body.literals.len() {
+) -> Option<Next<'k>>
+    requires { IsSoundBody (K.known known.now) body.now }
+    ensures { IfSome result (λ next. AreCandidates (K.known known.now) body.now stage.now next.variable next.elements) }
+{
+    for (i, literal) in body.literals.iter().enumerate() {
         if stage.pending[i] {
-            let next = along_literal(known, body, stage, i, end);
+            let next = along_literal(known, stage, literal, body.is_inner, end);
             if next.is_some() {
                 return next;
             }
@@ -137,7 +209,11 @@ fn listed_below<'k, K: Knowledge>(
 }
 
 /// The first variable that is to get its element.
-fn first_unassigned(stage: &Stage) -> Option<usize> {
+fn first_unassigned(stage: &Stage) -> Option<usize>
+    ensures few { IfSome result (λ v. v < 8) }
+    ensures unassigned { IfSome result (λ v. slice_index_or stage.now.unassigned v false ≡ true) }
+    ensures none { result ≡ None → (v : ℕ) → v < 8 → slice_index_or stage.now.unassigned v false ≡ false }
+{
     for v in 0..8 {
         if stage.unassigned[v] {
             return Some(v);
@@ -156,7 +232,6 @@ pub fn next_variable<'k, K: Knowledge>(
 ) -> Option<Next<'k>>
     requires { IsSoundBody (K.known known.now) body.now }
     ensures candidates { IfSome result (λ next. AreCandidates (K.known known.now) body.now stage.now next.variable next.elements) }
-    ensures refuted { IfSome result (λ next. AreRefuted (K.known known.now) body.now stage.now next.variable next.elements) }
     ensures none { result ≡ None → (v : ℕ) → v < 8 → slice_index_or stage.now.unassigned v false ≡ false }
 {
     let parameter = listed_below(known, body, stage, arity);

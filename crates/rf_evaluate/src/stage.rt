@@ -1,6 +1,7 @@
 //! How far the evaluation of a clause has come.
 
 ghost use Rattle.std.specs.Prelude.{◌≡◌, ◌<◌, ◌≤◌, ◌&&◌, ◌==◌, not, nat_le, nat_lt, ℕ, Bool, false, true, None, Some, length, slice_get, slice_index_or, slice_index, IfSome};
+ghost use Rattle.std.specs.List.{list_any};
 ghost use Rattle.rf_problem.specs.Reading.{is_entry};
 ghost use Rattle.rf_problem.specs.Valid.{is_free};
 ghost use Rattle.rf_problem.specs.declared.predicate.Literal.{Literal};
@@ -142,12 +143,19 @@ impl Stage {
         }
     }
 
+    /// Whether some term is a variable that is to get its element.
+    fn some_unassigned(&self, terms: &[Term]) -> bool
+        ensures { result ≡ list_any (is_unassigned self.now.unassigned) terms.now }
+    {
+        terms.iter().any(|term| self.is_unassigned(*term))
+    }
+
     /// Whether a literal names no variable that is to get its element.
     fn is_ground(&self, literal: &Literal) -> bool
         ensures { result ≡ not (names_unassigned self.now.unassigned literal.now) }
     {
         match literal {
-            Literal::Call { args, .. } => !args.iter().any(|term| self.is_unassigned(*term)),
+            Literal::Call { args, .. } => !self.some_unassigned(args.as_slice()),
             Literal::Same(a, b) => !self.is_unassigned(*a) && !self.is_unassigned(*b),
             Literal::Differ(a, b) => !self.is_unassigned(*a) && !self.is_unassigned(*b),
         }

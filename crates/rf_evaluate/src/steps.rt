@@ -52,14 +52,20 @@ pub struct Side {
 }
 
 impl Side {
-    fn new(alloc: Global) -> Side {
+    fn new(alloc: Global) -> Side
+        ensures successors { result.successors.items ≡ [] }
+        ensures through { result.through.items ≡ [] }
+    {
         Side {
             successors: Vec::new(alloc),
             through: Vec::new(alloc),
         }
     }
 
-    fn push(&mut self, successors: Vec<u64>, through: bool) -> Result<(), AllocError> {
+    fn push(&mut self, successors: Vec<u64>, through: bool) -> Result<(), AllocError>
+        ensures successors { OnOk result (self.new.successors.items ≡ self.old.successors.items ++ successors ∷ []) }
+        ensures through { OnOk result (self.new.through.items ≡ self.old.through.items ++ through ∷ []) }
+    {
         self.successors.push(successors)?;
         self.through.push(through)?;
         Ok(())
@@ -89,6 +95,7 @@ impl Steps {
             → presence ≡ k.presence n → AreStepsOf k symbol (n + 1) self.new) }
     {
         self.must.push(row.must, presence.must())?;
-        self.may.push(row.may, presence.may())
+        self.may.push(row.may, presence.may())?;
+        Ok(())
     }
 }

@@ -4,7 +4,8 @@ use Rattle.rf_evaluate.specs.Elements.{count, element_at}
 use Rattle.rf_evaluate.specs.Evaluating.{with_element}
 use Rattle.rf_evaluate.specs.Hunts.{IsPlaced}
 use Rattle.rf_evaluate.specs.declared.stage.Stage.{Stage}
-use Rattle.rf_evaluate.proofs.Reached.{IsFull, element_at-below}
+use Rattle.rf_evaluate.proofs.Reached.{IsFull}
+use Rattle.rf_evaluate.proofs.Candidates.{element_at-below}
 use Rattle.rf_evaluate.proofs.Remaining.{remaining, remaining-with, remaining-without}
 use Rattle.rf_evaluate.proofs.Searching.{IfOk-then, IsOfArity-with, IsPlaced-with, first-False, first-past, first-with, first-with_all, first-without, one_at}
 use Rattle.rf_evaluate.proofs.search.+search.Goals as goal
@@ -52,5 +53,5 @@ search_on-returns-clause-first g t c =
     let full : IsFull c.args.stage = record { elements = search rules; unassigned = search rules } in
     let few : c.loop-number.number ≤ c.count-number-end.result = search rules in
     first-with_all (g.K.Knowledge.known c.args.known.now) c.args.hunt.now.body (g.T.TupleTest.passes c.args.hunt.now.test.now) c.args.hunt.now.arity c.args.stage c.args.value c.args.best
-    c.in-Some.next.variable c.in-Some.next.elements c.loop-number.number c.loop-number.first full c.requires.few c.in-Some.ensures.candidates c.in-Some.ensures.refuted
+    c.in-Some.next.variable c.in-Some.next.elements c.loop-number.number c.loop-number.first full c.requires.few c.in-Some.ensures.candidates
     (omega (arith, few, c.loop-number-test.false, c.count-number-end.ensures)) c.loop-number.invariant.first

@@ -1,0 +1,41 @@
+-- How much of an evaluation is left.
+use Rattle.std.proofs.Common.{◌≡◌, ℕ, zero, suc, ◌+◌, ◌*◌, ◌^◌, ◌<◌, ◌≤◌, Bool, true, false, not, ◌&&◌, ◌==◌, if◌then◌else◌, List, length, get_or, refl, sym, ap, ◌∙◌, subst, inl, inr, arith, eqb, slice_set, true≢false}
+use Rattle.std.specs.Prelude.{slice_index_or}
+use Rattle.std.proofs.lemmas.Bool.{and_from, cases_Bool, cases_lt, eq-eqb, eqb-true}
+use Rattle.std.proofs.lemmas.Grind.{get_or-set_at}
+use Rattle.std.proofs.lemmas.List.{get_or-set_other, get_or_past}
+use Rattle.rf_finite.specs.Range.{count_below}
+use Rattle.rf_evaluate.proofs.Completing.{marked-within}
+use Rattle.rf_finite.proofs.Range.{count_below-le_bound, count_below-le, count_below-without}
+
+-- how many marks of the first n are set
+abbrev pub marked : ℕ → List Bool → ℕ
+marked n marks = count_below n (λ i. slice_index_or marks i false)
+
+-- the steps that are left of completing a body: literals and variables, more of them outside negations than inside
+abbrev pub steps_left : Bool → List Bool → List Bool → ℕ
+steps_left is_inner unassigned pending = (if is_inner then 2 ^ 67 else 2 ^ 69) + 4 * (marked 8 unassigned + marked 36 pending)
+
+-- and of evaluating one of its literals
+abbrev pub literal_left : Bool → ℕ
+literal_left is_inner = if is_inner then 2 ^ 66 else 2 ^ 68
+
+-- what is set after one mark was taken away was set before, and is another
+left_marked : (marks : List Bool) (i j : ℕ) → i < length marks → slice_index_or (slice_set marks i false) j false ≡ true → (not (eqb j i) && slice_index_or marks j false) ≡ true
+left_marked marks i j l h = elim (cases_Bool (eqb j i)) [
+  | inl t ↦ (let same : slice_index_or (slice_set marks i false) j false ≡ false = get_or-set_at marks i j false false (eqb-true j i t) l in absurd (true≢false (sym h ∙ same)))
+  | inr f ↦ (let other : slice_index_or (slice_set marks i false) j false ≡ slice_index_or marks j false = get_or-set_other marks i j false false (λ e. true≢false (sym (eq-eqb j i e) ∙ f)) in
+      and_from (not (eqb j i)) (slice_index_or marks j false) (ap not f) (sym other ∙ h))
+]
+
+-- one mark fewer is set
+pub marked-without : (n : ℕ) (marks : List Bool) (i : ℕ) → i < n → slice_index_or marks i false ≡ true → marked n (slice_set marks i false) + 1 ≤ marked n marks
+marked-without n marks i l e =
+    let one = count_below-without n (λ j. slice_index_or marks j false) i l e in
+    let fewer : marked n (slice_set marks i false) ≤ count_below n (λ j. not (eqb j i) && slice_index_or marks j false) =
+    count_below-le n (λ j. slice_index_or (slice_set marks i false) j false) (λ j. not (eqb j i) && slice_index_or marks j false) (λ j m h. left_marked marks i j (marked-within marks i e) h) in
+    omega arith
+
+-- none are more than there are
+pub marked-few : (n : ℕ) (marks : List Bool) → marked n marks ≤ n
+marked-few n marks = count_below-le_bound n (λ i. slice_index_or marks i false)
