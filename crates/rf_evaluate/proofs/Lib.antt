@@ -21,3 +21,4 @@ pub mod EvaluationRows
 pub mod EvaluationStages
 pub mod StepLemmas
 pub mod WalkLemmas
+pub mod ClauseSearch
