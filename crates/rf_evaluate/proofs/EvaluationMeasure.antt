@@ -1,9 +1,9 @@
 -- How much of an evaluation is left.
-use Rattle.std.proofs.Common.{◌≡◌, ℕ, zero, suc, ◌+◌, ◌*◌, ◌^◌, ◌<◌, ◌≤◌, Bool, true, false, not, ◌&&◌, ◌==◌, if◌then◌else◌, List, length, get_or, refl, sym, ap, ◌∙◌, subst, inl, inr, arith, eqb, slice_set, true≢false}
+use Rattle.std.proofs.Common.{◌≡◌, ℕ, ◌+◌, ◌*◌, ◌^◌, ◌<◌, ◌≤◌, Bool, true, false, not, ◌&&◌, if◌then◌else◌, List, length, sym, ap, ◌∙◌, inl, inr, arith, eqb, slice_set, true≢false}
 use Rattle.std.specs.Prelude.{slice_index_or}
-use Rattle.std.proofs.lemmas.Bool.{and_from, cases_Bool, cases_lt, eq-eqb, eqb-true}
+use Rattle.std.proofs.lemmas.Bool.{and_from, cases_Bool, eq-eqb, eqb-true}
 use Rattle.std.proofs.lemmas.Grind.{get_or-set_at}
-use Rattle.std.proofs.lemmas.List.{get_or-set_other, get_or_past}
+use Rattle.std.proofs.lemmas.List.{get_or-set_other}
 use Rattle.rf_finite.specs.Range.{count_below}
 use Rattle.rf_evaluate.proofs.Completing.{marked-within}
 use Rattle.rf_finite.proofs.Range.{count_below-le_bound, count_below-le, count_below-without}
@@ -39,3 +39,19 @@ marked-without n marks i l e =
 -- none are more than there are
 pub marked-few : (n : ℕ) (marks : List Bool) → marked n marks ≤ n
 marked-few n marks = count_below-le_bound n (λ i. slice_index_or marks i false)
+
+-- fewer steps are left after a literal, and with an element for a variable
+pub steps_left-without : (is_inner : Bool) (unassigned pending : List Bool) (i : ℕ) → i < 36 → slice_index_or pending i false ≡ true
+    → steps_left is_inner unassigned (slice_set pending i false) + 4 ≤ steps_left is_inner unassigned pending
+steps_left-without is_inner unassigned pending i l e = let fewer = marked-without 36 pending i l e in omega arith
+
+pub steps_left-with : (is_inner : Bool) (unassigned pending : List Bool) (v : ℕ) → v < 8 → slice_index_or unassigned v false ≡ true
+    → steps_left is_inner (slice_set unassigned v false) pending + 4 ≤ steps_left is_inner unassigned pending
+steps_left-with is_inner unassigned pending v l e = let fewer = marked-without 8 unassigned v l e in omega arith
+
+-- inside a negation fewer are left than of the literal outside, and of a clause no more than this
+pub steps_left-inside : (unassigned pending : List Bool) → steps_left true unassigned pending < literal_left false
+steps_left-inside unassigned pending = let few = marked-few 8 unassigned in let least = marked-few 36 pending in omega arith
+
+pub steps_left-few : (is_inner : Bool) (unassigned pending : List Bool) → is_inner ≡ false → steps_left is_inner unassigned pending < 2 ^ 70
+steps_left-few is_inner unassigned pending e = let few = marked-few 8 unassigned in let least = marked-few 36 pending in rw e (omega arith)

@@ -1,6 +1,6 @@
 -- What is known of symbols at tuples, and of the clauses of predicates.
-use Rattle.std.proofs.Common.{◌≡◌, ℕ, zero, suc, ◌+◌, ◌-◌, ◌<◌, ◌≤◌, max, Bool, true, false, ◌&&◌, ◌||◌, ◌==◌, Option, Some, None, List, [], ◌∷◌, length, get_or, drop, All, refl, sym, ap, ap₂, ◌∙◌, subst, inl, inr, arith, true≢false, drop-cons, add-one}
-use Rattle.std.proofs.lemmas.Bool.{and_parts, cases_lt, eq-eqb, eqb-true, ltb-true, or_left, or_right}
+use Rattle.std.proofs.Common.{◌≡◌, ℕ, zero, suc, ◌+◌, ◌-◌, ◌<◌, ◌≤◌, max, Bool, true, Some, List, [], ◌∷◌, length, get_or, drop, All, refl, sym, ap, ap₂, ◌∙◌, subst, inl, inr, arith, drop-cons, add-one}
+use Rattle.std.proofs.lemmas.Bool.{cases_lt, eq-eqb, ltb-true}
 use Rattle.std.proofs.lemmas.List.{drop_all, get_or_past}
 use Rattle.std.proofs.lemmas.List.Folds.{list_any_at}
 use Rattle.std.proofs.lemmas.Option.{get_or_from_slice_get, slice_get_past}
@@ -10,22 +10,20 @@ use Rattle.rf_finite.proofs.Range.{None-ne_Some}
 use Rattle.rf_finite.specs.Walks.{walk_below}
 use Rattle.rf_problem.specs.Parts.{arity_of, no_predicate, predicate_at}
 use Rattle.rf_problem.specs.Reading.{Assignment, Reading, clause_true, literals_true, predicate_true, some_assignment, symbol_true}
-use Rattle.rf_problem.specs.Valid.{FitsClause, calls, calls_predicate, fit_literals, fits_literal, is_declared, is_free}
-use Rattle.rf_problem.specs.declared.object.ObjectDecl.{ObjectDecl}
+use Rattle.rf_problem.specs.Valid.{FitsClause, calls, calls_predicate, is_free}
 use Rattle.rf_problem.specs.declared.predicate.Clause.{Clause}
 use Rattle.rf_problem.specs.declared.predicate.Literal.{Literal}
 use Rattle.rf_problem.specs.declared.predicate.Literal.TheVariants.{Call, Same, Differ}
 use Rattle.rf_problem.specs.declared.predicate.Predicate.{Predicate}
-use Rattle.rf_problem.specs.declared.predicate.Term.{Term}
 use Rattle.rf_problem.specs.declared.problem.Problem.{Problem}
 use Rattle.rf_problem.specs.declared.symbol.Symbol.{Symbol}
 use Rattle.rf_problem.specs.declared.symbol.Symbol.TheVariants.{Class, Reference, Predicate as Defined, Exists, Equals}
 use Rattle.rf_problem.proofs.Depth.{call_rank-below, call_rank-falls, predicate_true-step}
 use Rattle.rf_values.specs.Truth.{disjunction, may, must, truth_of}
 use Rattle.rf_values.specs.declared.truth.Truth.{Truth}
-use Rattle.rf_values.specs.declared.truth.Truth.TheVariants.{True, False}
+use Rattle.rf_values.specs.declared.truth.Truth.TheVariants.{True}
 use Rattle.rf_evaluate.specs.Evaluating.{IsSoundClause, IsWithin, LiteralIsWithin, call_rank, calls_of, clause_value, some_clause_value}
-use Rattle.rf_evaluate.specs.Known.{Known, declares, in_both, side, value_of, walk_of}
+use Rattle.rf_evaluate.specs.Known.{Known, declares, side, value_of, walk_of}
 use Rattle.rf_evaluate.specs.Terms.{AreElements}
 use Rattle.rf_evaluate.proofs.EvaluationTruths.{disjunction-assoc, disjunction-False}
 use Rattle.rf_evaluate.proofs.InBoth.{disjunction-truth_of}

@@ -1,15 +1,15 @@
 -- Claims at the elements of terms, and one more element for an atom among them.
-use Rattle.std.proofs.Common.{◌≡◌, ℕ, zero, suc, ◌+◌, ◌<◌, ◌≤◌, max, Bool, true, false, not, ◌&&◌, ◌==◌, if◌then◌else◌, Option, Some, List, [], ◌∷◌, length, map, drop, get_or, refl, sym, ap, ap₂, ◌∙◌, subst, inl, inr, arith, drop-cons, true≢false}
+use Rattle.std.proofs.Common.{◌≡◌, ℕ, zero, suc, ◌+◌, ◌<◌, ◌≤◌, max, Bool, true, false, ◌&&◌, ◌==◌, if◌then◌else◌, Option, Some, List, [], ◌∷◌, length, map, drop, get_or, refl, sym, ap, ap₂, ◌∙◌, subst, inl, inr, arith, drop-cons, true≢false}
 use Rattle.std.specs.Prelude.{slice_get, slice_index}
 use Rattle.std.proofs.lemmas.Bool.{and_parts, cases_Bool, eqb-true, false_from_ne_true}
 use Rattle.std.proofs.lemmas.List.{drop_all}
 use Rattle.std.proofs.lemmas.Option.{get_or_from_slice_get}
 use Rattle.rf_finite.proofs.Range.{None-ne_Some}
 use Rattle.rf_finite.specs.Range.{some_below}
-use Rattle.rf_problem.specs.Reading.{Assignment, Choice, Reading, assign, atom_true, atoms_among, element_of, some_choice, some_elements, symbol_true}
+use Rattle.rf_problem.specs.Reading.{Assignment, Choice, Reading, assign, atoms_among, element_of, some_choice, symbol_true}
 use Rattle.rf_finite.specs.Walks.{walk_below}
 use Rattle.rf_problem.specs.Parts.{arity_of}
-use Rattle.rf_problem.specs.Valid.{fit_literals, fits_literal, is_declared}
+use Rattle.rf_problem.specs.Valid.{fit_literals, fits_literal}
 use Rattle.rf_problem.specs.declared.predicate.Literal.{Literal}
 use Rattle.rf_problem.specs.declared.predicate.Literal.TheVariants.{Call, Same as SameTerms, Differ as DifferentTerms}
 use Rattle.rf_problem.specs.declared.predicate.Term.{Term}
@@ -20,7 +20,7 @@ use Rattle.rf_values.specs.Truth.{conjunction, disjunction, may, must, truth_of}
 use Rattle.rf_values.specs.declared.truth.Truth.{Truth}
 use Rattle.rf_values.specs.declared.truth.Truth.TheVariants.{True, False, Unknown, Error}
 use Rattle.rf_evaluate.specs.Elements.{AreBelow, count, element_at, includes}
-use Rattle.rf_evaluate.specs.Evaluating.{IsSoundBody, IsValueFor, IsWithin, LiteralIsWithin, calls_of, claim_for, claim_true, claim_value, literal_value, presence_from, some_truth, standing}
+use Rattle.rf_evaluate.specs.Evaluating.{IsSoundBody, IsValueFor, IsWithin, calls_of, claim_for, claim_true, claim_value, literal_value, presence_from, some_truth}
 use Rattle.rf_evaluate.specs.Known.{Known, declares, in_both, side}
 use Rattle.rf_evaluate.specs.Terms.{AreElements, StandFor, is_atom}
 use Rattle.rf_evaluate.specs.declared.claim.Claim.{Claim}
@@ -29,7 +29,7 @@ use Rattle.rf_evaluate.specs.declared.elements.Elements.{Elements}
 use Rattle.rf_evaluate.specs.declared.stage.Body.{Body}
 use Rattle.rf_evaluate.proofs.Candidates.{some_truth-among}
 use Rattle.rf_evaluate.proofs.EvaluationTruths.{disjunction-False, some_truth-found, some_truth-next}
-use Rattle.rf_evaluate.proofs.InBoth.{may-truth_of, must-truth_of, some_truth-pair}
+use Rattle.rf_evaluate.proofs.InBoth.{conjunction-pair, some_truth-same, some_truth-truth_of}
 use Rattle.rf_evaluate.proofs.EvaluationSymbols.{arity_of-few, symbol_true-same}
 
 -- the elements of terms, with 0 for atoms, are elements where those of variables are
@@ -79,8 +79,8 @@ pub IsValueFor-ended : (k : Known) (claim : Claim) (terms : List Term) (n : ℕ)
 IsValueFor-ended k claim terms n cells value l e = λ assignment choice h.
     let none : drop n terms ≡ [] = drop_all n terms l in
     rw none (e ∙ ap₂ truth_of
-        (claim_true-same k claim cells (map (element_of assignment choice) terms) (side must k) (side may k) h)
-        (claim_true-same k claim cells (map (element_of assignment choice) terms) (side may k) (side must k) h))
+    (claim_true-same k claim cells (map (element_of assignment choice) terms) (side must k) (side may k) h)
+    (claim_true-same k claim cells (map (element_of assignment choice) terms) (side may k) (side must k) h))
 
 -- before the first none is chosen
 pub claim_value-from_start : (k : Known) (claim : Claim) (terms : List Term) (assignment cells : List ℕ) (value : Truth)
@@ -95,26 +95,13 @@ atoms_among-variable terms k v t l e = rw (drop-cons terms k t l, e) refl
 pub atoms_among-atom : (terms : List Term) (k o : ℕ) (t : Term) → k < length terms → get_or terms k t ≡ Atom o → atoms_among (drop k terms) ≡ o ∷ atoms_among (drop (suc k) terms)
 atoms_among-atom terms k o t l e = rw (drop-cons terms k t l, e) refl
 
--- an element for an atom, in one column and in the other
-must-chosen : (v : Truth) (b s t : Bool) → (must v && (b && s)) ≡ must (conjunction (if b then v else False) (truth_of s t))
-must-chosen True true s t = sym (must-truth_of (must (truth_of s t)) (may (truth_of s t)) ∙ must-truth_of s t)
-must-chosen False true s t = refl
-must-chosen Unknown true s t = sym (must-truth_of false (may (truth_of s t)))
-must-chosen Error true s t = sym (must-truth_of (must (truth_of s t)) false ∙ must-truth_of s t)
-must-chosen True false s t = refl
-must-chosen False false s t = refl
-must-chosen Unknown false s t = refl
-must-chosen Error false s t = refl
-
-may-chosen : (v : Truth) (b s t : Bool) → (may v && (b && t)) ≡ may (conjunction (if b then v else False) (truth_of s t))
-may-chosen True true s t = sym (may-truth_of (must (truth_of s t)) (may (truth_of s t)) ∙ may-truth_of s t)
-may-chosen False true s t = refl
-may-chosen Unknown true s t = sym (may-truth_of false (may (truth_of s t)) ∙ may-truth_of s t)
-may-chosen Error true s t = sym (may-truth_of (must (truth_of s t)) false)
-may-chosen True false s t = refl
-may-chosen False false s t = refl
-may-chosen Unknown false s t = refl
-may-chosen Error false s t = refl
+-- an element for an atom, in both columns
+chosen-pair : (v : Truth) (b s t : Bool) → truth_of (must v && (b && s)) (may v && (b && t)) ≡ conjunction (if b then v else False) (truth_of s t)
+chosen-pair v true s t = sym (conjunction-pair v s t)
+chosen-pair True false s t = refl
+chosen-pair False false s t = refl
+chosen-pair Unknown false s t = refl
+chosen-pair Error false s t = refl
 
 -- a claim with an element for an atom: that it is present and comes from the atom, and that the claim holds for some elements
 -- for the atoms after it
@@ -131,10 +118,8 @@ pub claim_for-atom : (k : Known) (claim : Claim) (terms : List Term) (o : ℕ) (
 claim_for-atom k claim terms o atoms assignment choice =
     let left = λ (x : ℕ). chosen_true k claim terms atoms assignment (assign choice o x) (side must k) (side may k) in
     let right = λ (x : ℕ). chosen_true k claim terms atoms assignment (assign choice o x) (side may k) (side must k) in
-    ap₂ (λ (p q : ℕ → Bool). truth_of (some_below k.size p) (some_below k.size q))
-    (λ j x. must-chosen (k.presence x) (k.origin x == o) (left x) (right x) j)
-    (λ j x. may-chosen (k.presence x) (k.origin x == o) (left x) (right x) j)
-    ∙ sym (some_truth-pair k.size (claim_with k claim terms o atoms assignment choice))
+    sym (some_truth-truth_of k.size (λ x. must (k.presence x) && (k.origin x == o && left x)) (λ x. may (k.presence x) && (k.origin x == o && right x)))
+    ∙ some_truth-same k.size _ (claim_with k claim terms o atoms assignment choice) (λ x l. chosen-pair (k.presence x) (k.origin x == o) (left x) (right x))
 
 -- a loop through the elements that can come from an atom
 module _ (k : Known) (claim : Claim) (terms : List Term) (cells : List ℕ) (o : ℕ) (atoms : List ℕ) (elements : Elements) where
@@ -148,8 +133,8 @@ module _ (k : Known) (claim : Claim) (terms : List Term) (cells : List ℕ) (o :
       → IsFoundWith n found → IsFoundWith (n + 1) found
   IsFoundWith-absent n found presence x is at absent so_far = λ assignment choice h.
       let more = some_truth-next n (λ i. claim_with k claim terms o atoms assignment choice (element_at elements i)) found False (so_far assignment choice h)
-          (sym (ap (λ (v : Truth). conjunction v (claim_for k claim terms atoms assignment (assign choice o (element_at elements n))))
-          (ap (presence_from k o) (sym is) ∙ (sym at ∙ absent)))) in
+      (sym (ap (λ (v : Truth). conjunction v (claim_for k claim terms atoms assignment (assign choice o (element_at elements n))))
+      (ap (presence_from k o) (sym is) ∙ (sym at ∙ absent)))) in
       sym (disjunction-False found) ∙ more
 
   pub IsFoundWith-next : (n : ℕ) (found presence value : Truth) (x : ℕ) (more : List ℕ) → x ≡ element_at elements n → presence ≡ presence_from k o x
@@ -169,7 +154,7 @@ module _ (k : Known) (claim : Claim) (terms : List Term) (cells : List ℕ) (o :
         claim_for-atom k claim terms o atoms assignment choice
         ∙ some_truth-among k.size (claim_with k claim terms o atoms assignment choice) elements below
         (λ x l e. let elsewhere : (k.origin x == o) ≡ false = false_from_ne_true (k.origin x == o) (λ t. true≢false (sym (complete x l (eqb-true (k.origin x) o t)) ∙ e)) in
-            ap (λ (b : Bool). conjunction (if b then k.presence x else False) (claim_for k claim terms atoms assignment (assign choice o x))) elsewhere)
+        ap (λ (b : Bool). conjunction (if b then k.presence x else False) (claim_for k claim terms atoms assignment (assign choice o x))) elsewhere)
 
     pub IsValueFor-ended_elements : (n : ℕ) (found : Truth) → count elements ≡ n → IsFoundWith n found → IsValueFor k claim terms cells (o ∷ atoms) found
     IsValueFor-ended_elements n found e so_far = λ assignment choice h.

@@ -1,6 +1,6 @@
 -- Truths of one of a number of elements at least, found one by one.
-use Rattle.std.proofs.Common.{◌≡◌, ℕ, zero, suc, ◌+◌, ◌<◌, ◌≤◌, true, false, ◌==◌, refl, sym, ap, ap₂, ◌∙◌, subst, inl, inr, arith, rules}
-use Rattle.std.proofs.lemmas.Bool.{cases_Bool, eq-eqb}
+use Rattle.std.proofs.Common.{◌≡◌, ℕ, zero, suc, ◌+◌, ◌≤◌, true, ◌==◌, refl, sym, ap, ap₂, subst, inl, inr, arith, rules}
+use Rattle.std.proofs.lemmas.Bool.{eq-eqb}
 use Rattle.rf_finite.specs.Range.{some_below}
 use Rattle.rf_finite.proofs.Range.{below_or_last, some_below-from_one}
 use Rattle.rf_values.specs.Truth.{disjunction}

@@ -63,8 +63,5 @@ conjunction-False False = refl
 conjunction-False Unknown = refl
 conjunction-False Error = refl
 
-pub conjunction-from_False : (a : Truth) → conjunction False a ≡ False
-conjunction-from_False a = refl
-
 pub conjunction-pair : (a : Truth) (m n : Bool) → conjunction a (truth_of m n) ≡ truth_of (must a && m) (may a && n)
 conjunction-pair a m n = ap₂ truth_of (ap (λ x. must a && x) (must-truth_of m n)) (ap (λ x. may a && x) (may-truth_of m n))

@@ -12,7 +12,6 @@ pub mod Pending
 pub mod Unassigned
 pub mod Cells
 pub mod Narrowing
-pub mod StageLemmas
 pub mod EvaluationTruths
 pub mod EvaluationSymbols
 pub mod EvaluationTerms

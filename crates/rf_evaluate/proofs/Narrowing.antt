@@ -1,8 +1,8 @@
 -- Elements outside of which a literal is false.
-use Rattle.std.proofs.Common.{◌≡◌, ℕ, ◌<◌, Bool, true, false, ◌&&◌, ◌||◌, ◌==◌, Option, None, Some, List, [], ◌∷◌, length, get_or, set, refl, sym, ap, ap₂, ◌∙◌, subst, inl, inr, arith, get_or-set_same, get_or-set_other}
+use Rattle.std.proofs.Common.{◌≡◌, ℕ, ◌<◌, Bool, true, false, ◌&&◌, ◌||◌, ◌==◌, Option, None, Some, List, [], ◌∷◌, set, refl, sym, ap, ap₂, ◌∙◌, subst, inl, inr, get_or-set_same, get_or-set_other}
 use Rattle.std.specs.List.{list_any}
 use Rattle.std.specs.Prelude.{IfSome, slice_get, slice_index, slice_index_or}
-use Rattle.std.proofs.lemmas.Bool.{both_ways, cases_Bool, eq-eqb, eqb-true, lt-ltb, or_from}
+use Rattle.std.proofs.lemmas.Bool.{both_ways, cases_Bool, eq-eqb, eqb-true, or_from}
 use Rattle.rf_finite.proofs.Range.{some_below-none}
 use Rattle.rf_values.specs.Truth.{may, must, truth_of}
 use Rattle.rf_values.specs.declared.truth.Truth.{Truth}
@@ -20,7 +20,6 @@ use Rattle.rf_problem.proofs.Fitting.{FitsCall-from_literal_fits, each-from_lite
 use Rattle.rf_evaluate.specs.Narrowing.{AwaitsElement, IsAnchor, Narrows, declares_called}
 use Rattle.rf_evaluate.specs.Terms.{is_unassigned}
 use Rattle.rf_evaluate.specs.declared.elements.Elements.{Elements}
-use Rattle.rf_evaluate.specs.declared.elements.Elements.TheVariants.{Below}
 use Rattle.rf_evaluate.specs.declared.next.Next.{Next}
 use Rattle.rf_evaluate.specs.declared.stage.Body.{Body}
 use Rattle.rf_evaluate.specs.declared.stage.Stage.{Stage}
@@ -127,13 +126,6 @@ Narrows-from k s r a b v x elements awaits anchor below complete =
         (StandsAlone-anchor k s v awaits.unassigned column b x y anchor)
         (ap (λ (n : ℕ). column (k.edge r n x)) (get_or-set_same s.elements v y 0 awaits.place) ∙ (ap column (complete y l off) ∙ none))
 
--- a list of two is the pair of its elements
-pub pair-same : {X : Type 0} (xs : List X) (d e : X) → length xs ≡ 2 → get_or xs 0 d ∷ get_or xs 1 e ∷ [] ≡ xs
-pair-same [] d e two = absurd (omega arith)
-pair-same (x ∷ []) d e two = absurd (omega arith)
-pair-same (x ∷ y ∷ []) d e two = refl
-pair-same (x ∷ y ∷ z ∷ xs) d e two = absurd (omega arith)
-
 -- the elements that a literal that is to be evaluated leaves are candidates
 pub AreCandidates-from_literal : (k : Known) (b : Body) (s : Stage) (i : ℕ) (l : Literal) (v : ℕ) (elements : Elements) → slice_get b.literals.now i ≡ Some l
     → slice_index_or s.pending i false ≡ true → Narrows k s (standing b.is_inner l) v elements → AreCandidates k b s v elements
@@ -149,15 +141,6 @@ AreCandidates-from_literal k b s i l v elements at pending narrows = record {
     ground = sym (names_unassigned-standing (set s.unassigned v false) b.is_inner l) ∙ narrows.ground;
     refuted = narrows.others x lt off i b.variables.now;
   };
-}
-
--- and so are all elements
-pub AreCandidates-all : (k : Known) (b : Body) (s : Stage) (v : ℕ) → v < 8 → slice_index_or s.unassigned v false ≡ true → AreCandidates k b s v (Below k.size)
-AreCandidates-all k b s v few unassigned = record {
-  variable = few;
-  unassigned = unassigned;
-  below = omega arith;
-  others = λ x l off. absurd (both_ways (includes (Below k.size) x) off (lt-ltb x k.size l));
 }
 
 -- the symbol that a literal of a sound body calls is there

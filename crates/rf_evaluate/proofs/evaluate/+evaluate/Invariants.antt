@@ -1,7 +1,7 @@
-use Rattle.std.proofs.Common.{◌≡◌, ◌<◌, ◌≤◌, ◌∷◌, ℕ, All, IfOk, IsTrue, false, true, Some, None, [], drop, length, max, slice_get, slice_index, slice_index_or, slice_set, suc, ◌+◌, ◌-◌, ◌*◌, ◌^◌}
-use Rattle.rf_problem.specs.Reading.{Assignment, Choice, atoms_among}
-use Rattle.rf_evaluate.specs.Elements.{AreBelow, count, element_at, includes}
-use Rattle.rf_evaluate.specs.Evaluating.{completed_with, some_clause_value, some_truth}
+use Rattle.std.proofs.Common.{◌≡◌, false, drop, length, slice_set, suc, ◌+◌, ◌-◌, ◌*◌, ◌^◌}
+use Rattle.rf_problem.specs.Reading.{atoms_among}
+use Rattle.rf_evaluate.specs.Elements.{element_at}
+use Rattle.rf_evaluate.specs.Evaluating.{completed_with, some_truth}
 use Rattle.rf_evaluate.specs.Kept.{AreKept}
 use Rattle.rf_evaluate.specs.Steps.{AreStepsOf}
 use Rattle.rf_evaluate.proofs.EvaluationMeasure.{literal_left, steps_left}

@@ -1,5 +1,5 @@
 use Rattle.std.proofs.Common.{refl, replicate, false}
-use Rattle.rf_evaluate.proofs.StageLemmas.{marked-alone}
+use Rattle.rf_evaluate.proofs.Cells.{marked-alone}
 use Rattle.rf_evaluate.proofs.stage.Stage.inside.Goals as goal
 
 pub returns-clause-pending : goal.returns-clause-pending
