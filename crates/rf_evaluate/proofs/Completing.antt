@@ -6,7 +6,7 @@ use Rattle.std.proofs.lemmas.List.{get_or_past}
 use Rattle.std.specs.List.{list_any}
 use Rattle.rf_finite.specs.Range.{some_below}
 use Rattle.rf_values.specs.Truth.{conjunction, may, must, negation}
-use Rattle.rf_values.specs.declared.truth.Truth.TheVariants.{True}
+use Rattle.rf_values.specs.declared.truth.Truth.TheVariants.{True, False}
 use Rattle.rf_problem.specs.Reading.{Assignment, Reading, assign, call_true, clause_true, is_entry, literal_true, literals_true, some_assignment}
 use Rattle.rf_problem.specs.Valid.{is_free}
 use Rattle.rf_problem.specs.declared.predicate.Clause.{Clause}
@@ -16,7 +16,7 @@ use Rattle.rf_problem.specs.declared.predicate.Term.{Term}
 use Rattle.rf_problem.specs.declared.predicate.Term.TheVariants.{Var, Atom}
 use Rattle.rf_problem.specs.declared.symbol.Symbol.{Symbol}
 use Rattle.rf_evaluate.specs.Elements.{count, element_at}
-use Rattle.rf_evaluate.specs.Evaluating.{AreCandidates, calls_of, clause_value, completed_value, completed_with, completes, literal_value, pending_true, some_truth, some_unassigned, standing, with_element, without_literal}
+use Rattle.rf_evaluate.specs.Evaluating.{AreCandidates, IsRefuted, calls_of, clause_value, completed_value, completed_with, completes, literal_value, pending_true, some_truth, some_unassigned, standing, with_element, without_literal}
 use Rattle.rf_evaluate.specs.Known.{Known, side}
 use Rattle.rf_evaluate.specs.Terms.{is_unassigned, names_unassigned}
 use Rattle.rf_evaluate.specs.declared.elements.Elements.{Elements}
@@ -205,9 +205,15 @@ clause-completed k b s arity t c outer variables literals few cells ranging pend
         ∙ some_unassigned-entries here is_free (drop arity c.variables) (drop arity s.unassigned) arity (slice_index t)
         (λ a. literals_true (calls_of k) here inside c.variables 0 a c.literals) entries past
 
+-- a body can't be completed where a literal is refuted
+pub completed-refuted : (k : Known) (b : Body) (s : Stage) → IsRefuted k b s → completed_value k b s ≡ False
+completed-refuted k b s r =
+    completed-evaluated k b s r.place r.literal (marked-within s.pending r.place r.pending) r.pending r.there r.ground
+    ∙ ap (λ own. conjunction own (completed_value k b (without_literal s r.place))) r.refuted
+
 -- one of all elements completes the body where one of the candidates does
 pub some_truth-candidates : (k : Known) (b : Body) (s : Stage) (v : ℕ) (elements : Elements) → AreCandidates k b s v elements
     → some_truth k.size (completed_with k b s v) ≡ some_truth (count elements) (λ n. completed_with k b s v (element_at elements n))
 some_truth-candidates k b s v elements are =
     some_truth-among k.size (completed_with k b s v) elements are.below (λ x l off.
-    ap (λ value. conjunction (k.presence x) value) (are.others x l off) ∙ conjunction-False (k.presence x))
+    ap (λ value. conjunction (k.presence x) value) (completed-refuted k b (with_element s v x) (are.others x l off)) ∙ conjunction-False (k.presence x))

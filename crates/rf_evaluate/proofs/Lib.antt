@@ -1,4 +1,11 @@
 pub mod Completing
+pub mod BothFirsts
+pub mod Conjunctions
+pub mod Independence
+pub mod TupleStages
+pub mod Reached
+pub mod Remaining
+pub mod Searching
 pub mod Candidates
 pub mod InBoth
 pub mod Pending
@@ -13,3 +20,4 @@ pub mod EvaluationRows
 pub mod EvaluationStages
 pub mod StepLemmas
 pub mod WalkLemmas
+pub mod ClauseSearch

@@ -4,7 +4,7 @@ use Rattle.std.specs.List.{list_any}
 use Rattle.std.specs.Prelude.{IfSome, slice_get, slice_index, slice_index_or}
 use Rattle.std.proofs.lemmas.Bool.{both_ways, cases_Bool, eq-eqb, eqb-true, or_from}
 use Rattle.rf_finite.proofs.Range.{some_below-none}
-use Rattle.rf_values.specs.Truth.{conjunction, may, must, truth_of}
+use Rattle.rf_values.specs.Truth.{may, must, truth_of}
 use Rattle.rf_values.specs.declared.truth.Truth.{Truth}
 use Rattle.rf_values.specs.declared.truth.Truth.TheVariants.{False}
 use Rattle.rf_problem.specs.Reading.{Assignment, Reading, assign, some_elements}
@@ -14,7 +14,7 @@ use Rattle.rf_problem.specs.declared.predicate.Term.{Term}
 use Rattle.rf_problem.specs.declared.predicate.Term.TheVariants.{Var, Atom}
 use Rattle.rf_problem.specs.declared.symbol.Symbol.TheVariants.{Reference}
 use Rattle.rf_evaluate.specs.Elements.{AreBelow, includes}
-use Rattle.rf_evaluate.specs.Evaluating.{AreCandidates, IsSoundBody, completed_value, standing, with_element, without_literal}
+use Rattle.rf_evaluate.specs.Evaluating.{AreCandidates, IsSoundBody, standing}
 use Rattle.rf_evaluate.specs.Known.{Known, side}
 use Rattle.rf_problem.proofs.Fitting.{FitsCall-from_literal_fits, each-from_literals_fit}
 use Rattle.rf_evaluate.specs.Narrowing.{AwaitsElement, IsAnchor, Narrows, declares_called}
@@ -23,7 +23,7 @@ use Rattle.rf_evaluate.specs.declared.elements.Elements.{Elements}
 use Rattle.rf_evaluate.specs.declared.next.Next.{Next}
 use Rattle.rf_evaluate.specs.declared.stage.Body.{Body}
 use Rattle.rf_evaluate.specs.declared.stage.Stage.{Stage}
-use Rattle.rf_evaluate.proofs.Completing.{completed-evaluated, marked-within, names_unassigned-standing}
+use Rattle.rf_evaluate.proofs.Completing.{marked-within, names_unassigned-standing}
 
 -- a term stands for x alone in a reading
 abbrev StandsAlone : Reading → Assignment → Term → ℕ → Type 0
@@ -133,10 +133,14 @@ AreCandidates-from_literal k b s i l v elements at pending narrows = record {
   variable = narrows.few;
   unassigned = narrows.unassigned;
   below = narrows.below;
-  others = λ x lt off.
-      completed-evaluated k b (with_element s v x) i l (marked-within s.pending i pending) pending at
-      (sym (names_unassigned-standing (set s.unassigned v false) b.is_inner l) ∙ narrows.ground)
-      ∙ ap (λ (own : Truth). conjunction own (completed_value k b (without_literal (with_element s v x) i))) (narrows.others x lt off i b.variables.now);
+  others = λ x lt off. record {
+    place = i;
+    literal = l;
+    there = at;
+    pending = pending;
+    ground = sym (names_unassigned-standing (set s.unassigned v false) b.is_inner l) ∙ narrows.ground;
+    refuted = narrows.others x lt off i b.variables.now;
+  };
 }
 
 -- the symbol that a literal of a sound body calls is there

@@ -20,7 +20,7 @@ use Rattle.rf_problem.specs.declared.symbol.Symbol.TheVariants.{Predicate as Def
 use Rattle.rf_evaluate.specs.Elements.{AreBelow, includes}
 use Rattle.rf_evaluate.specs.declared.elements.Elements.{Elements}
 use Rattle.rf_evaluate.specs.Known.{Known, declares, in_both}
-use Rattle.rf_evaluate.specs.Terms.{StandFor}
+use Rattle.rf_evaluate.specs.Terms.{StandFor, names_unassigned}
 use Rattle.rf_evaluate.specs.declared.claim.Claim.{Claim}
 use Rattle.rf_evaluate.specs.declared.claim.Claim.TheVariants.{Holds, Same as AreSame, Differ as AreDifferent}
 use Rattle.rf_evaluate.specs.declared.stage.Body.{Body}
@@ -137,12 +137,21 @@ with_element s v x = record { elements = slice_set s.elements v x; unassigned = 
 abbrev pub without_literal : Stage → ℕ → Stage
 without_literal s i = record { elements = s.elements; unassigned = s.unassigned; pending = slice_set s.pending i false }
 
--- the elements are those among which a variable's has to be so that the body can be completed
+-- a literal is left that names no unassigned variable and is false
+pub record IsRefuted (k : Known) (b : Body) (s : Stage) : Type 0 where
+  pub place : ℕ
+  pub literal : Literal
+  pub there : slice_get b.literals.now place ≡ Some literal
+  pub pending : slice_index_or s.pending place false ≡ true
+  pub ground : names_unassigned s.unassigned literal ≡ false
+  pub refuted : literal_value k b place literal (slice_index s.elements) ≡ False
+
+-- the elements are those among which a variable's has to be so that no literal is refuted
 pub record AreCandidates (k : Known) (b : Body) (s : Stage) (v : ℕ) (elements : Elements) : Type 0 where
   pub variable : v < 8
   pub unassigned : slice_index_or s.unassigned v false ≡ true
   pub below : AreBelow k.size elements
-  pub others : (x : ℕ) → x < k.size → includes elements x ≡ false → completed_value k b (with_element s v x) ≡ False
+  pub others : (x : ℕ) → x < k.size → includes elements x ≡ false → IsRefuted k b (with_element s v x)
 
 -- that a variable has one of some elements which complete the body: an element that is present and completes the rest
 abbrev pub completed_with : Known → Body → Stage → ℕ → ℕ → Truth

@@ -7,4 +7,5 @@ pub mod Search
 pub mod Terms
 pub mod Evaluating
 pub mod Steps
+pub mod Hunts
 pub mod Narrowing
