@@ -1,4 +1,4 @@
-use Rattle.std.proofs.Common.{◌∙◌, ◌==◌, ℕ, Bool, false, [], get_or, refl, sym}
+use Rattle.std.proofs.Common.{◌∙◌, ◌==◌, ℕ, Bool, [], get_or, refl, sym}
 use Rattle.rf_names.specs.Tables.{passes_at}
 use Rattle.rf_names.proofs.LoopSteps.{kept_more, left_more}
 use Rattle.rf_names.proofs.members.declared_by.Goals as goal

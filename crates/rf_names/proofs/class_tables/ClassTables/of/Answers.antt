@@ -1,5 +1,5 @@
 use Rattle.std.proofs.Common.{◌≡◌, ◌∙◌, ap, map}
-use Rattle.rf_names.specs.Tables.{AreCounts, numbers_among}
+use Rattle.rf_names.specs.Tables.{numbers_among}
 use Rattle.rf_names.proofs.class_tables.ClassTables.of.Goals as goal
 
 pub invariant_of-result : goal.invariant_of-result

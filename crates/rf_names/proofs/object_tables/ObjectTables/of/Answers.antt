@@ -1,4 +1,4 @@
-use Rattle.std.proofs.Common.{◌≡◌, ◌∙◌, [], ap, map}
+use Rattle.std.proofs.Common.{◌∙◌, [], ap, map}
 use Rattle.rf_names.specs.LookUp.{first_of_each}
 use Rattle.rf_names.proofs.NamedLemmas.{item_names-lent}
 use Rattle.rf_names.proofs.object_tables.ObjectTables.of.Goals as goal
