@@ -1,16 +1,12 @@
 -- What is gathered from one statement more.
-use Rattle.std.proofs.Common.{◌≡◌, ◌<◌, ◌+◌, ◌∙◌, ℕ, List, [], ◌∷◌, ◌++◌, length, take, get_or, refl, sym, ap, append-nil}
+use Rattle.std.proofs.Common.{◌≡◌, ◌<◌, ◌+◌, ◌∙◌, ℕ, List, [], ◌∷◌, ◌++◌, length, take, get_or, refl, sym, ap}
 use Rattle.std.proofs.lemmas.List.{take_more}
-use Rattle.std.proofs.lemmas.List.Concat.{flat_map-append}
 use Rattle.std.specs.List.{flat_map}
 use Rattle.rf_syntax.specs.declared.name.Name.{Name}
 use Rattle.rf_syntax.specs.declared.statement.Statement.{Statement}
 use Rattle.rf_names.specs.Declarations.{ClassDecl, Declared, ReferenceDecl, assertions_in, atoms_in, bounds_in, classes_in, declared_by, items_in, mentions_in, names_in, predicates_in, references_of}
 use Rattle.rf_names.specs.Gathering.{gathered_by, with_statement}
-
--- what a list of statements adds to one more
-flat_map_snoc : {X Y : Type 0} (f : X → List Y) (xs : List X) (x : X) → flat_map f (xs ++ x ∷ []) ≡ flat_map f xs ++ f x
-flat_map_snoc f xs x = flat_map-append f xs (x ∷ []) ∙ ap (λ ys. flat_map f xs ++ ys) (append-nil (f x))
+use Rattle.rf_names.proofs.LoopSteps.{flat_map_snoc}
 
 gathered_snoc : (atoms : List Name) (ss : List Statement) (s : Statement) → gathered_by atoms (ss ++ s ∷ []) ≡ with_statement (gathered_by atoms ss) s
 gathered_snoc atoms ss s =

@@ -4,6 +4,7 @@ pub mod FoundLemmas
 pub mod Gathered
 pub mod LeastOffsets
 pub mod ListedLemmas
+pub mod LoopSteps
 pub mod MapLemmas
 pub mod NamedLemmas
 pub mod NumberLemmas

@@ -2,7 +2,7 @@
 use Rattle.std.proofs.Common.{◌≡◌, ◌∙◌, ℕ, ◌<◌, ◌≤◌, ◌^◌, Bool, true, false, ◌==◌, ◌&&◌, List, [], ◌∷◌, length, take, get_or, map, filter, Option, None, Some, refl, sym, ap, arith, inl, inr, nat_lt}
 use Rattle.std.specs.Prelude.{option_map, slice_get}
 use Rattle.std.proofs.lemmas.Bool.{cases_Bool, cases_lt, lt-ltb}
-use Rattle.std.proofs.lemmas.List.{length-map, length-take, take_all}
+use Rattle.std.proofs.lemmas.List.{length-map, length-take}
 use Rattle.std.proofs.lemmas.List.Folds.{find_at}
 use Rattle.std.proofs.lemmas.List.Quantifiers.{position-Some}
 use Rattle.std.proofs.lemmas.List.Sums.{count_by-le-length}
@@ -79,14 +79,12 @@ map-seen : {R S T : Type 0} (g : S → T) (f : R → S) (xs : List R) → map g 
 map-seen g f [] = refl
 map-seen g f (x ∷ xs) = ap (λ ys. g (f x) ∷ ys) (map-seen g f xs)
 
--- the names of all items
-pub item_names-all :
-    (lent items : List (Bor Item)) (names : List Name) (i : ℕ) (all : List Item) → names ≡ map (λ x. x.now.name) (take i items) → length items ≤ i →
-    items ≡ lent → map (λ x. x.now) lent ≡ all → names ≡ map (λ x. x.name) all
-item_names-all lent items names i all are done same seen =
+-- the names of items that are lent
+pub item_names-lent : (lent : List (Bor Item)) (all : List Item) → map (λ x. x.now) lent ≡ all → map (λ x. x.now.name) lent ≡ map (λ x. x.name) all
+item_names-lent lent all seen =
     let name : Item → Name = λ x. x.name in
     let now : Bor Item → Item = λ x. x.now in
-    are ∙ ap (map (λ x. name (now x))) (take_all i items done ∙ same) ∙ sym (map-seen name now lent) ∙ ap (map name) seen
+    sym (map-seen name now lent) ∙ ap (map name) seen
 
 -- few classes have small counts
 pub counts_below :

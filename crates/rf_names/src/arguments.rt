@@ -4,7 +4,8 @@ ghost use Rattle.std.specs.Prelude.{◌≡◌, IfOk, map};
 ghost use Rattle.rf_names.specs.Declarations.{is_among, is_atom_argument, param_names};
 ghost use Rattle.rf_names.specs.Gathering.{is_atom_among};
 
-use crate::bodies::{is_blank, names_of_params};
+use crate::bodies::is_blank;
+use crate::named::numbered;
 use crate::names::Names;
 use crate::numbering::Numbering;
 use rf_syntax::{Name, Param};
@@ -14,8 +15,7 @@ use std::alloc::{AllocError, Global};
 pub fn numbered_params<'a>(alloc: Global, params: &'a [Param]) -> Result<Numbering<'a>, AllocError>
     ensures { IfOk result (λ known. map (λ n. n.now) known.names.items ≡ param_names params.now) }
 {
-    let names = names_of_params(alloc, params)?;
-    Numbering::of(alloc, names.as_slice())
+    numbered(alloc, params)
 }
 
 /// Whether an argument of a body stands for one of these atoms, beside these parameters.

@@ -8,6 +8,7 @@ ghost use Rattle.rf_names.specs.Texts.{is_blank, reads};
 
 use crate::arguments::Arguments;
 use crate::gather::push_all;
+use crate::named::names_of;
 use rf_syntax::{BodyLiteral, Name, Param};
 use std::alloc::{AllocError, Global};
 
@@ -29,11 +30,7 @@ pub fn is_blank(name: &Name) -> bool
 pub fn names_of_params<'a>(alloc: Global, params: &'a [Param]) -> Result<Vec<&'a Name>, AllocError>
     ensures { IfOk result (λ v. map (λ n. n.now) v.items ≡ param_names params.now) }
 {
-    let mut names = Vec::new(alloc);
-    for param in params {
-        names.push(&param.name)?;
-    }
-    Ok(names)
+    names_of(alloc, params)
 }
 
 /// Appends the names that a literal has as arguments.
@@ -45,17 +42,13 @@ pub fn push_argument_names<'a>(
         ++ argument_names literal.now) }
 {
     match literal {
-        BodyLiteral::Call { args, .. } => push_all(out, args.as_slice())?,
-        BodyLiteral::Same(first, second) => {
+        BodyLiteral::Call { args, .. } => push_all(out, args.as_slice()),
+        BodyLiteral::Same(first, second) | BodyLiteral::Differ(first, second) => {
             out.push(first)?;
             out.push(second)?;
-        }
-        BodyLiteral::Differ(first, second) => {
-            out.push(first)?;
-            out.push(second)?;
+            Ok(())
         }
     }
-    Ok(())
 }
 
 /// The names that a literal has as arguments, in order.

@@ -4,13 +4,14 @@ ghost use Rattle.std.specs.Prelude.{◌≡◌, ◌<◌, ◌^◌, ℕ, IfOk, IsTr
 ghost use Rattle.rf_names.specs.LookUp.{class_named, extends_somehow};
 ghost use Rattle.rf_names.specs.Tables.{AreCounts, new_before, numbers_among};
 
+use crate::both::both;
 use crate::counts::new_before;
 use crate::declarations::Declarations;
+use crate::named::numbered;
 use crate::numbering::Numbering;
 use crate::ranks::has_ranks;
 use crate::supers::supers_of;
 use rf_closure::reach_along;
-use rf_syntax::Name;
 use std::alloc::{AllocError, Global};
 
 /// The tables of the classes.
@@ -30,29 +31,17 @@ pub struct ClassTables<'a> {
     ghost few: { length declared.now.classes < 2 ^ 32 },
 }
 
-// The names of the classes.
-fn class_names<'a>(
-    alloc: Global,
-    declared: &'a Declarations<'a>,
-) -> Result<Vec<&'a Name>, AllocError>
-    ensures { IfOk result (λ names. map (λ n. n.now) names.items
-        ≡ map (λ c. c.name) declared.now.classes) }
-{
-    let mut names = Vec::new(alloc);
-    for class in declared.classes.as_slice() {
-        names.push(class.name)?;
-    }
-    Ok(names)
-}
-
 impl<'a> ClassTables<'a> {
     pub fn of(alloc: Global, declared: &'a Declarations<'a>) -> Result<ClassTables<'a>, AllocError>
         requires { length declared.now.classes < 2 ^ 32 }
         ensures { IfOk result (λ tables. tables.declared.now ≡ declared.now) }
     {
-        let names = Numbering::of(alloc, class_names(alloc, declared)?.as_slice())?;
-        let supers = supers_of(alloc, &names, declared.classes.as_slice())?;
-        let new_before = new_before(alloc, declared.classes.as_slice())?;
+        let classes = declared.classes.as_slice();
+        let names = numbered(alloc, classes)?;
+        let (supers, new_before) = both(
+            supers_of(alloc, &names, classes),
+            new_before(alloc, classes),
+        )?;
         Ok(ClassTables {
             declared,
             names,

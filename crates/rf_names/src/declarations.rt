@@ -98,7 +98,6 @@ impl<'a> Declarations<'a> {
     }
 
     // What the statements declare and state, with these atoms, but for the references.
-    #[tactic(auto, using(crate::proofs::Gathered::gathered_more))]
     fn gathered(
         alloc: Global,
         atoms: Numbering<'a>,

@@ -6,6 +6,7 @@ ghost use Rattle.rf_names.specs.LookUp.{enum_of, is_literal_of};
 ghost use Rattle.rf_names.specs.Tables.{owners_from, passes_at};
 ghost use Rattle.rf_names.specs.Texts.{reads};
 
+use crate::both::both;
 use crate::declarations::Declarations;
 use crate::gather::push_all;
 use crate::numbering::Numbering;
@@ -43,6 +44,18 @@ fn literals_of<'a>(
         push_all(&mut names, class.literals)?;
     }
     Ok(names)
+}
+
+// The literals of all classes, with numbers.
+fn numbered_literals<'a>(
+    alloc: Global,
+    classes: &[ClassDeclaration<'a>],
+) -> Result<Numbering<'a>, AllocError>
+    ensures { IfOk result (λ numbering. map (λ n. n.now) numbering.names.items
+        ≡ flat_map (λ c. c.literals) classes.now) }
+{
+    let names = literals_of(alloc, classes)?;
+    Numbering::of(alloc, names.as_slice())
 }
 
 // The number of a class, once for each of its literals.
@@ -112,9 +125,10 @@ impl<'a> EnumTables<'a> {
         ensures { IfOk result (λ tables. tables.declared.now ≡ declared.now) }
     {
         let classes = declared.classes.as_slice();
-        let literals = Numbering::of(alloc, literals_of(alloc, classes)?.as_slice())?;
-        let owners = owners_of(alloc, classes)?;
-        let by_class = literals_by_class(alloc, classes)?;
+        let (literals, (owners, by_class)) = both(
+            numbered_literals(alloc, classes),
+            both(owners_of(alloc, classes), literals_by_class(alloc, classes)),
+        )?;
         Ok(EnumTables {
             declared,
             literals,

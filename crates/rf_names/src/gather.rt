@@ -3,6 +3,7 @@
 ghost use Rattle.std.specs.Prelude.{◌≡◌, ◌∷◌, ◌++◌, [], IfOk, OnOk, map};
 ghost use Rattle.rf_names.specs.Declarations.{asserted_atom, asserted_truth, assertions_in, atoms_in, bounds_in, classes_in, is_error_word, items_in, items_of, items_or_none, listed_or_none, names_in, predicates_in, references_of, truth_of};
 
+use crate::named::push_names_of;
 use crate::parts::{
     AssertDeclaration, ClassDeclaration, ClauseDeclaration, PredicateDeclaration,
     ReferenceDeclaration,
@@ -48,16 +49,6 @@ pub fn push_listed<'a, T>(
     push_all(out, listed(list))
 }
 
-fn push_item_names<'a>(out: &mut Vec<&'a Name>, items: &'a [Item]) -> Result<(), AllocError>
-    ensures { OnOk result (map (λ n. n.now) out.new.items ≡ map (λ n. n.now) out.old.items
-        ++ map (λ i. i.name) items.now) }
-{
-    for item in items {
-        out.push(&item.name)?;
-    }
-    Ok(())
-}
-
 /// Appends the names of items.
 pub fn push_names_of_items<'a>(
     out: &mut Vec<&'a Name>,
@@ -67,7 +58,7 @@ pub fn push_names_of_items<'a>(
         ++ map (λ i. i.name) (items_of list.now)) }
 {
     out.push(&list.first.name)?;
-    push_item_names(out, list.rest.as_slice())
+    push_names_of(out, list.rest.as_slice())
 }
 
 // The names after `extends`, which may be left out.
@@ -181,19 +172,18 @@ pub fn push_names<'a>(out: &mut Vec<&'a Name>, statement: &'a Statement) -> Resu
         ++ names_in statement.now) }
 {
     match statement {
-        Statement::Class { name, .. } => out.push(name)?,
+        Statement::Class { name, .. } | Statement::Predicate { name, .. } => {
+            out.push(name)?;
+            Ok(())
+        }
         Statement::Enum { name, literals } => {
             out.push(name)?;
-            push_listed(out, literals)?;
+            push_listed(out, literals)
         }
-        Statement::Predicate { name, .. } => out.push(name)?,
-        Statement::Declare(names) => push_list(out, names)?,
-        Statement::Multi(items) => push_names_of_items(out, items)?,
-        Statement::Atoms(names) => push_list(out, names)?,
-        Statement::Scope(_) => {}
-        Statement::Assert { .. } => {}
+        Statement::Declare(names) | Statement::Atoms(names) => push_list(out, names),
+        Statement::Multi(items) => push_names_of_items(out, items),
+        Statement::Scope(_) | Statement::Assert { .. } => Ok(()),
     }
-    Ok(())
 }
 
 /// Appends the atoms that it declares.
@@ -202,11 +192,10 @@ pub fn push_atoms<'a>(out: &mut Vec<&'a Name>, statement: &'a Statement) -> Resu
         ++ atoms_in statement.now) }
 {
     match statement {
-        Statement::Enum { literals, .. } => push_listed(out, literals)?,
-        Statement::Atoms(names) => push_list(out, names)?,
-        _ => {}
+        Statement::Enum { literals, .. } => push_listed(out, literals),
+        Statement::Atoms(names) => push_list(out, names),
+        _ => Ok(()),
     }
-    Ok(())
 }
 
 /// Appends the class or the enum that it declares.

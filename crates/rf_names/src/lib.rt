@@ -17,6 +17,7 @@
 
 mod arguments;
 mod bodies;
+mod both;
 mod class_tables;
 mod counts;
 mod declarations;
@@ -26,6 +27,7 @@ mod kind;
 mod listing;
 mod members;
 mod mentions;
+mod named;
 mod names;
 mod numbering;
 mod object_tables;

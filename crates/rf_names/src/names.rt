@@ -8,11 +8,13 @@ ghost use Rattle.rf_names.specs.Tables.{AreListed};
 ghost use Rattle.rf_names.specs.Texts.{reads};
 
 use crate::Sense;
+use crate::both::both;
 use crate::class_tables::ClassTables;
 use crate::declarations::Declarations;
 use crate::enum_tables::EnumTables;
 use crate::listing::{numbers_by_name, numbers_under};
 use crate::members::{declared_above, declared_by};
+use crate::named::numbered;
 use crate::numbering::Numbering;
 use crate::object_tables::ObjectTables;
 use crate::senses::{joined, own_sense, sense_of_class, sense_of_predicate, sense_of_references};
@@ -40,21 +42,6 @@ pub struct Names<'a> {
     ghost few_predicates: { length declared.now.predicates < 2 ^ 32 },
 }
 
-// The names of the predicates.
-fn predicate_names<'a>(
-    alloc: Global,
-    declared: &'a Declarations<'a>,
-) -> Result<Vec<&'a Name>, AllocError>
-    ensures { IfOk result (λ names. map (λ n. n.now) names.items
-        ≡ map (λ p. p.name) declared.now.predicates) }
-{
-    let mut names = Vec::new(alloc);
-    for predicate in declared.predicates.as_slice() {
-        names.push(predicate.name)?;
-    }
-    Ok(names)
-}
-
 // Whether there are few enough of each kind for numbers of 32 bits.
 fn are_few(declared: &Declarations) -> bool
     ensures classes { IsTrue result → length declared.now.classes < 2 ^ 32 }
@@ -76,13 +63,26 @@ impl<'a> Names<'a> {
         if !are_few(declared) {
             return Err(AllocError);
         }
+        let ((classes, enums), (objects, (predicates, references))) = both(
+            both(
+                ClassTables::of(alloc, declared),
+                EnumTables::of(alloc, declared),
+            ),
+            both(
+                ObjectTables::of(alloc, declared),
+                both(
+                    numbered(alloc, declared.predicates.as_slice()),
+                    numbers_by_name(alloc, declared.references.as_slice()),
+                ),
+            ),
+        )?;
         Ok(Names {
             declared,
-            classes: ClassTables::of(alloc, declared)?,
-            enums: EnumTables::of(alloc, declared)?,
-            objects: ObjectTables::of(alloc, declared)?,
-            predicates: Numbering::of(alloc, predicate_names(alloc, declared)?.as_slice())?,
-            references: numbers_by_name(alloc, declared.references.as_slice())?,
+            classes,
+            enums,
+            objects,
+            predicates,
+            references,
         })
     }
 

@@ -4,7 +4,9 @@ ghost use Rattle.std.specs.Prelude.{◌≡◌, IfOk, map};
 ghost use Rattle.std.specs.Option.{option_map};
 ghost use Rattle.rf_names.specs.LookUp.{item_named, named_objects, object_named};
 
+use crate::both::both;
 use crate::declarations::Declarations;
+use crate::named::numbered;
 use crate::numbering::Numbering;
 use rf_syntax::{Item, Name};
 use std::alloc::{AllocError, Global};
@@ -20,27 +22,14 @@ pub struct ObjectTables<'a> {
     ghost of_items: { map (λ n. n.now) items.names.items ≡ map (λ i. i.name) declared.now.items },
 }
 
-// The names of the items.
-fn item_names<'a>(
-    alloc: Global,
-    declared: &'a Declarations<'a>,
-) -> Result<Vec<&'a Name>, AllocError>
-    ensures { IfOk result (λ names. map (λ n. n.now) names.items
-        ≡ map (λ i. i.name) declared.now.items) }
-{
-    let mut names = Vec::new(alloc);
-    for item in declared.items.as_slice() {
-        names.push(&item.name)?;
-    }
-    Ok(names)
-}
-
 impl<'a> ObjectTables<'a> {
     pub fn of(alloc: Global, declared: &'a Declarations<'a>) -> Result<ObjectTables<'a>, AllocError>
         ensures { IfOk result (λ tables. tables.declared.now ≡ declared.now) }
     {
-        let objects = Numbering::of_first(alloc, declared.mentions.as_slice())?;
-        let items = Numbering::of(alloc, item_names(alloc, declared)?.as_slice())?;
+        let (objects, items) = both(
+            Numbering::of_first(alloc, declared.mentions.as_slice()),
+            numbered(alloc, declared.items.as_slice()),
+        )?;
         Ok(ObjectTables {
             declared,
             objects,

@@ -6,113 +6,73 @@ ghost use Rattle.rf_names.specs.Ranks.{FallsAlong, HasRanks};
 
 use std::alloc::{AllocError, Global};
 
-fn no_vertices(alloc: Global, count: usize) -> Result<Vec<Vec<u64>>, AllocError> {
-    let mut lists = Vec::new(alloc);
-    for _vertex in 0..count {
-        lists.push(Vec::new(alloc))?;
+// The vertices, of which there are so many.
+fn vertices(alloc: Global, count: usize) -> Result<Vec<u64>, AllocError> {
+    let mut numbers = Vec::new(alloc);
+    for vertex in 0..count {
+        numbers.push(vertex as u64)?;
     }
-    Ok(lists)
+    Ok(numbers)
 }
 
-// Puts a vertex among those that lead to each of the others. A number that isn't a vertex is left out.
-fn add_source(sources: &mut Vec<Vec<u64>>, vertex: u64, others: &[u64]) -> Result<(), AllocError> {
-    for other in others {
-        if let Some(list) = sources.get_mut(*other as usize) {
-            list.push(vertex)?;
-        }
+// Whether this is a vertex that no walk has come to: of the vertices to which it leads none was taken.
+fn is_new(taken: &[usize], vertex: u64) -> bool {
+    match taken.get(vertex as usize) {
+        Some(count) => *count == 0,
+        None => false,
     }
-    Ok(())
 }
 
-// For each vertex those that lead to it.
-fn sources_of(alloc: Global, successors: &[Vec<u64>]) -> Result<Vec<Vec<u64>>, AllocError> {
-    let mut sources = no_vertices(alloc, successors.len())?;
-    for (vertex, list) in successors.iter().enumerate() {
-        add_source(&mut sources, vertex as u64, list.as_slice())?;
-    }
-    Ok(sources)
+// Takes the next of the vertices to which this one leads.
+fn take_next(successors: &[Vec<u64>], taken: &mut Vec<usize>, vertex: u64) -> Option<u64> {
+    let list = successors.get(vertex as usize)?;
+    let count = taken.get_mut(vertex as usize)?;
+    let place = *count;
+    *count = place.saturating_add(1);
+    list.get(place).copied()
 }
 
-// How many of the numbers are those of vertices.
-fn vertices_among(numbers: &[u64], count: usize) -> usize {
-    numbers
-        .iter()
-        .filter(|number| (**number as usize) < count)
-        .count()
-}
-
-// For each vertex to how many vertices it leads.
-fn counts_of(alloc: Global, successors: &[Vec<u64>]) -> Result<Vec<usize>, AllocError> {
-    let mut counts = Vec::new(alloc);
-    for list in successors {
-        counts.push(vertices_among(list.as_slice(), successors.len()))?;
-    }
-    Ok(counts)
-}
-
-// The vertices that lead to none.
-fn ends(alloc: Global, counts: &[usize]) -> Result<Vec<u64>, AllocError> {
-    let mut vertices = Vec::new(alloc);
-    for (vertex, count) in counts.iter().enumerate() {
-        if *count == 0 {
-            vertices.push(vertex as u64)?;
-        }
-    }
-    Ok(vertices)
-}
-
-// Takes one from the count of a vertex, and says whether none is left.
-fn takes_last(left: &mut Vec<usize>, vertex: u64) -> bool {
-    let Some(count) = left.get_mut(vertex as usize) else {
-        return false;
-    };
-    *count = count.saturating_sub(1);
-    *count == 0
-}
-
-// Takes one from the counts of vertices that lead to one that has its rank, and puts those of which
-// none is left on the stack.
-fn release(sources: &[u64], left: &mut Vec<usize>, ready: &mut Vec<u64>) -> Result<(), AllocError> {
-    for source in sources {
-        if takes_last(left, *source) {
-            ready.push(*source)?;
-        }
-    }
-    Ok(())
-}
-
+// Gives a vertex this rank if it has none.
 fn set_rank(ranks: &mut Vec<u64>, vertex: u64, rank: u64) {
     if let Some(own) = ranks.get_mut(vertex as usize) {
-        *own = rank;
+        if *own == 0 {
+            *own = rank;
+        }
     }
 }
 
-// The vertices that lead to this one.
-fn sources_at(sources: &[Vec<u64>], vertex: u64) -> &[u64] {
-    match sources.get(vertex as usize) {
-        Some(list) => list.as_slice(),
-        None => &[],
-    }
-}
-
-// Ranks from one on, each given to a vertex once all to which it leads have theirs. A vertex from which
-// a walk leads to a cycle keeps rank 0.
-fn ranks_of(alloc: Global, successors: &[Vec<u64>]) -> Result<Vec<u64>, AllocError> {
-    let sources = sources_of(alloc, successors)?;
-    let mut left = counts_of(alloc, successors)?;
-    let mut ready = ends(alloc, left.as_slice())?;
-    let mut ranks = vec![in alloc; 0u64; successors.len()]?;
-    for rank in 0..successors.len() {
-        let Some(vertex) = ready.pop() else {
+// Walks from each of these vertices, and gives each vertex its rank when all to which it leads were
+// walked to.
+fn walk(
+    mut stack: Vec<u64>,
+    successors: &[Vec<u64>],
+    taken: &mut Vec<usize>,
+    ranks: &mut Vec<u64>,
+) -> Result<(), AllocError> {
+    for step in 0..u64::MAX {
+        let Some(vertex) = stack.pop() else {
             break;
         };
-        set_rank(&mut ranks, vertex, rank as u64 + 1);
-        release(
-            sources_at(sources.as_slice(), vertex),
-            &mut left,
-            &mut ready,
-        )?;
+        match take_next(successors, taken, vertex) {
+            None => set_rank(ranks, vertex, step + 1),
+            Some(other) => {
+                stack.push(vertex)?;
+                if is_new(taken.as_slice(), other) {
+                    stack.push(other)?;
+                }
+            }
+        }
     }
+    Ok(())
+}
+
+// Ranks from one on, in the order in which walks leave the vertices for the last time: where no walk leads
+// back to its start, each vertex is left after all to which it leads.
+fn ranks_of(alloc: Global, successors: &[Vec<u64>]) -> Result<Vec<u64>, AllocError> {
+    let count = successors.len();
+    let mut ranks = vec![in alloc; 0u64; count]?;
+    let mut taken = vec![in alloc; 0usize; count]?;
+    walk(vertices(alloc, count)?, successors, &mut taken, &mut ranks)?;
     Ok(ranks)
 }
 
@@ -129,7 +89,12 @@ fn rank_at(ranks: &[u64], vertex: u64) -> u64
 fn are_below(ranks: &[u64], vertices: &[u64], rank: u64) -> bool
     ensures { result ≡ list_all (λ q. nat_lt (slice_index_or ranks.now q 0) rank) vertices.now }
 {
-    vertices.iter().all(|vertex| rank_at(ranks, *vertex) < rank)
+    for vertex in vertices {
+        if rank_at(ranks, *vertex) >= rank {
+            return false;
+        }
+    }
+    true
 }
 
 // Whether each vertex's rank is greater than those of the vertices to which it leads.
