@@ -99,9 +99,9 @@ module _ (k : Known) (b : Body) (passes : List ℕ → Bool) (arity : ℕ) (s : 
       unassigned : (v : ℕ) → slice_index_or (with_tuple s t).unassigned v false ≡ (nat_le arity v && (nat_lt v (length c.variables) && is_free (slice_index_or c.variables v None)))
       unassigned v = elim (cases_lt v (length t)) [
         | inl l ↦ first-assigned s t v l ∙ sym (ap (λ (x : Bool). x && (nat_lt v (length c.variables) && is_free (slice_index_or c.variables v None)))
-          (false_from_ne_true (nat_le arity v) (λ h. let m : arity ≤ v = leb-true arity v h in absurd (omega (arith, len)))))
+            (false_from_ne_true (nat_le arity v) (λ h. let m : arity ≤ v = leb-true arity v h in absurd (omega (arith, len)))))
         | inr g ↦ later-assigned s t v g ∙ (unassigned-at v ∙ sym (ap (λ (x : Bool). x && (nat_lt v (length c.variables) && is_free (slice_index_or c.variables v None)))
-          (le-leb arity v (omega (arith, len)))))
+            (le-leb arity v (omega (arith, len)))))
       ]
 
   -- what is reached from such a stage is what is found at the clause
@@ -133,8 +133,8 @@ module _ (k : Known) (passes : List ℕ → Bool) (arity : ℕ) (clauses : List 
       (λ t r. elim (cases_lt r.place n) [
         | inl l ↦ inl (record { place = r.place; clause = r.clause; before = l; there = r.there; found = r.found })
         | inr m ↦ (let l : r.place < n + 1 = r.before in let e : r.place ≡ n = omega (arith, l) in
-          let same : r.clause ≡ c = same-from_Some r.clause c (sym r.there ∙ (ap (slice_get clauses) e ∙ there)) in
-          inr (subst (λ (d : Clause). IsFoundAt k passes arity d t) same r.found))
+            let same : r.clause ≡ c = same-from_Some r.clause c (sym r.there ∙ (ap (slice_get clauses) e ∙ there)) in
+            inr (subst (λ (d : Clause). IsFoundAt k passes arity d t) same r.found))
       ])
       (IsFirstOf-then (slice_cmp nat_cmp) nat_list_cmp_total (IsFoundAmong k passes arity clauses n) (IsFoundAt k passes arity c) first o h g)
 
@@ -158,8 +158,8 @@ first-found_at k q passes n o all h =
       value = λ f. r.found.possible (each-from_list_any (holds t) (can t) clauses r.place r.clause r.there (sym (value_of-clauses k q t) ∙ f));
     })
     (λ t r. let one = one-from_list_any (holds t) (can t) clauses (λ f. r.value (value_of-clauses k q t ∙ f)) in
-      let l : one.0 < length clauses = slice_get-below clauses one.0 one.1 one.2 in
-      record { place = one.0; clause = one.1; before = omega (arith, l, all); there = one.2; found = record { tuple = r.tuple; passed = r.passed; possible = one.3 } })
+    let l : one.0 < length clauses = slice_get-below clauses one.0 one.1 one.2 in
+    record { place = one.0; clause = one.1; before = omega (arith, l, all); there = one.2; found = record { tuple = r.tuple; passed = r.passed; possible = one.3 } })
     h
 
 -- what is found among all clauses of a predicate is found
@@ -169,7 +169,7 @@ pub first-found : (k : Known) (q : ℕ) (passes : List ℕ → Bool) (n arity : 
 first-found k q passes n arity clauses o many same all h =
     first-found_at k q passes n o (subst (λ (cs : List Clause). length cs ≤ n) same all)
     (subst (λ (a : ℕ). IsFirstOf (slice_cmp nat_cmp) (IsFoundAmong k passes a (predicate_at k.problem.predicates q).clauses n) o) many
-      (subst (λ (cs : List Clause). IsFirstOf (slice_cmp nat_cmp) (IsFoundAmong k passes arity cs n) o) same h))
+    (subst (λ (cs : List Clause). IsFirstOf (slice_cmp nat_cmp) (IsFoundAmong k passes arity cs n) o) same h))
 
 -- a clause of a predicate is well formed
 pub sound-clause : (k : Known) (q : ℕ) (clauses : List Clause) (i : ℕ) (c : Clause) → q < length k.problem.predicates → clauses ≡ (predicate_at k.problem.predicates q).clauses
@@ -180,5 +180,5 @@ sound-clause k q clauses i c declared same l at =
     let depth : (n + 1) - 1 ≡ n = omega arith in
     let all = IsSoundClause-from_problem k (n + 1) q declared (omega (arith, rank)) in
     let here : IsSoundClause k ((n + 1) - 1) (get_or clauses i c) = subst (λ (cs : List Clause). IsSoundClause k ((n + 1) - 1) (get_or cs i c)) (sym same)
-      (all i c (subst (λ (cs : List Clause). i < length cs) same l)) in
+    (all i c (subst (λ (cs : List Clause). i < length cs) same l)) in
     subst (λ (d : ℕ). IsSoundClause k d c) depth (subst (IsSoundClause k ((n + 1) - 1)) (sym at) here)

@@ -68,9 +68,10 @@ conjunction-both_False a p q e f =
 disjunction-parts : (a p q : Truth) → conjunction a (disjunction p q) ≡ False
     → ((must a && (must p || must q)) ≡ false) × ((may a && (may p || may q)) ≡ false)
 disjunction-parts a p q e =
-    let m = parts-from_False (must a && must (disjunction p q)) (may a && may (disjunction p q)) e in
-    (ap (λ x. must a && x) (sym (must-truth_of (must p || must q) (may p || may q))) ∙ m.0,
-    ap (λ x. may a && x) (sym (may-truth_of (must p || must q) (may p || may q))) ∙ m.1)
+    let m = parts-from_False (must a && must (disjunction p q)) (may a && may (disjunction p q)) e in (
+      ap (λ x. must a && x) (sym (must-truth_of (must p || must q) (may p || may q))) ∙ m.0,
+      ap (λ x. may a && x) (sym (may-truth_of (must p || must q) (may p || may q))) ∙ m.1,
+    )
 
 pub conjunction-left_False : (a p q : Truth) → conjunction a (disjunction p q) ≡ False → conjunction a p ≡ False
 conjunction-left_False a p q e =
@@ -88,8 +89,8 @@ one-from_some_truth a zero f h = absurd (h (conjunction-False a))
 one-from_some_truth a (suc n) f h = elim (cases_False (conjunction a (f n))) [
   | inr ne ↦ (n, omega arith, ne)
   | inl e ↦ (let one = one-from_some_truth a n f (λ g. h (conjunction-both_False a (some_truth n f) (f n) g e)) in
-    let less : one.0 < n = one.1 in
-    (one.0, omega (arith, less), one.2))
+      let less : one.0 < n = one.1 in
+      (one.0, omega (arith, less), one.2))
 ]
 
 -- where none isn't, each is
@@ -111,9 +112,9 @@ module _ {X : Type 0} (p r : X → Bool) where
   one-from_list_any (x ∷ xs) h = elim (cases_False (truth_of (p x) (r x))) [
     | inr ne ↦ (0, x, refl, ne)
     | inl e ↦ (let parts = parts-from_False (p x) (r x) e in
-      let one = one-from_list_any xs (λ f. let more = parts-from_False (list_any p xs) (list_any r xs) f in
+        let one = one-from_list_any xs (λ f. let more = parts-from_False (list_any p xs) (list_any r xs) f in
         h (False-from_parts (p x || list_any p xs) (r x || list_any r xs) (ap₂ (λ y z. y || z) parts.0 more.0) (ap₂ (λ y z. y || z) parts.1 more.1))) in
-      (suc one.0, one.1, one.2, one.3))
+        (suc one.0, one.1, one.2, one.3))
   ]
 
   -- where it is, that of each is

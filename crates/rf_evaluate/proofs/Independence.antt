@@ -22,7 +22,7 @@ literal_value-agreeing k b i l unassigned f g agree ground =
     in_both-same k (λ here inside. literal_true (calls_of k) here inside b.variables.now i f (standing b.is_inner l))
     (λ here inside. literal_true (calls_of k) here inside b.variables.now i g (standing b.is_inner l))
     (λ here inside. literal-same unassigned (calls_of k) here inside b.variables.now i (standing b.is_inner l)
-      (names_unassigned-standing unassigned b.is_inner l ∙ ground) f g agree)
+    (names_unassigned-standing unassigned b.is_inner l ∙ ground) f g agree)
 
 term-fewer : (us vs : List Bool) (a : Term) → ((u : ℕ) → slice_index_or us u false ≡ false → slice_index_or vs u false ≡ false)
     → is_unassigned us a ≡ false → is_unassigned vs a ≡ false

@@ -37,9 +37,9 @@ pub record IsFull (s : Stage) : Type 0 where
 GoesOn-with : (s : Stage) (t : List ℕ) (v x : ℕ) → IsFull s → v < 8 → GoesOn s t → (v < length t → slice_index t v ≡ x) → GoesOn (with_element s v x) t
 GoesOn-with s t v x full l on same u m e = elim (cases_order u v) [
   | inl q ↦ subst (λ (w : ℕ). slice_index t w ≡ slice_index (set s.elements v x) w) (sym q)
-    (same (subst (λ (w : ℕ). w < length t) q m) ∙ sym (get_or-set_same s.elements v x 0 (omega (arith, full.elements))))
+      (same (subst (λ (w : ℕ). w < length t) q m) ∙ sym (get_or-set_same s.elements v x 0 (omega (arith, full.elements))))
   | inr o ↦ (let apart : u ≡ v → ⊥ = λ q. elim o [ inl less ↦ absurd (omega arith) | inr more ↦ absurd (omega arith) ] in
-    on u m (sym (get_or-set_other s.unassigned v u false false (λ q. apart q)) ∙ e) ∙ sym (get_or-set_other s.elements v u x 0 (λ q. apart q)))
+      on u m (sym (get_or-set_other s.unassigned v u false false (λ q. apart q)) ∙ e) ∙ sym (get_or-set_other s.elements v u x 0 (λ q. apart q)))
 ]
 
 -- and the other way round
@@ -72,7 +72,7 @@ module _ (k : Known) (b : Body) (passes : List ℕ → Bool) (arity : ℕ) where
   IsReached-without s i l value own t pending there ground is h =
       let rest = completed_value k b (with_tuple (without_literal s i) t) in
       let e = ap (conjunction value) (value-evaluated s i l t pending there ground h.goes_on) ∙ (conjunction-assoc value (literal_value k b i l (slice_index s.elements)) rest
-        ∙ ap (λ (y : Truth). conjunction (conjunction value y) rest) (sym is)) in
+      ∙ ap (λ (y : Truth). conjunction (conjunction value y) rest) (sym is)) in
       record { tuple = h.tuple; passed = h.passed; goes_on = h.goes_on; possible = λ f. h.possible (e ∙ f) }
 
   pub IsReached-before : (s : Stage) (i : ℕ) (l : Literal) (value own : Truth) (t : List ℕ) → slice_index_or s.pending i false ≡ true → slice_get b.literals.now i ≡ Some l
@@ -81,7 +81,7 @@ module _ (k : Known) (b : Body) (passes : List ℕ → Bool) (arity : ℕ) where
   IsReached-before s i l value own t pending there ground is h =
       let rest = completed_value k b (with_tuple (without_literal s i) t) in
       let e = ap (conjunction value) (value-evaluated s i l t pending there ground h.goes_on) ∙ (conjunction-assoc value (literal_value k b i l (slice_index s.elements)) rest
-        ∙ ap (λ (y : Truth). conjunction (conjunction value y) rest) (sym is)) in
+      ∙ ap (λ (y : Truth). conjunction (conjunction value y) rest) (sym is)) in
       record { tuple = h.tuple; passed = h.passed; goes_on = h.goes_on; possible = λ f. h.possible (sym e ∙ f) }
 
   refuted-value : (s : Stage) (t : List ℕ) → IsRefuted k b s → GoesOn s t → completed_value k b (with_tuple s t) ≡ False
@@ -106,22 +106,28 @@ module _ (k : Known) (b : Body) (passes : List ℕ → Bool) (arity : ℕ) where
       → IsReached k b passes arity s value t → (x : ℕ) × (x < k.size) × IsReached k b passes arity (with_element s v x) (value_with k arity v value x) t
   chosen s value v t full few less open_at h = elim (cases_lt v arity) [
     | inl l ↦ (let m : v < length t = omega (arith, h.tuple.many) in
-      let x = slice_index t v in
-      (x, All-get_or (λ y. y < k.size) t v 0 m h.tuple.below, record {
-        tuple = h.tuple;
-        passed = h.passed;
-        goes_on = GoesOn-with s t v x full less h.goes_on (λ q. refl);
-        possible = λ f. h.possible (ap₂ conjunction (sym (value_with-parameter k arity v value x l)) (ap (completed_value k b) (sym (with_tuple-first s t v x m))) ∙ f);
-      }))
+        let x = slice_index t v in (
+          x,
+          All-get_or (λ y. y < k.size) t v 0 m h.tuple.below,
+          record {
+            tuple = h.tuple;
+            passed = h.passed;
+            goes_on = GoesOn-with s t v x full less h.goes_on (λ q. refl);
+            possible = λ f. h.possible (ap₂ conjunction (sym (value_with-parameter k arity v value x l)) (ap (completed_value k b) (sym (with_tuple-first s t v x m))) ∙ f);
+          },
+        ))
     | inr g ↦ (let m : length t ≤ v = omega (arith, h.tuple.many) in
-      let one = one-from_some_truth value k.size (completed_with k b (with_tuple s t) v)
-        (λ f. h.possible (ap (conjunction value) (chosen-value s t v full (omega (arith, h.tuple.many)) m open_at) ∙ f)) in
-      (one.0, one.1, record {
-        tuple = h.tuple;
-        passed = h.passed;
-        goes_on = GoesOn-with s t v one.0 full less h.goes_on (λ q. absurd (omega arith));
-        possible = λ f. one.2 (with-value s t v one.0 value g m ∙ f);
-      }))
+        let one = one-from_some_truth value k.size (completed_with k b (with_tuple s t) v)
+        (λ f. h.possible (ap (conjunction value) (chosen-value s t v full (omega (arith, h.tuple.many)) m open_at) ∙ f)) in (
+          one.0,
+          one.1,
+          record {
+            tuple = h.tuple;
+            passed = h.passed;
+            goes_on = GoesOn-with s t v one.0 full less h.goes_on (λ q. absurd (omega arith));
+            possible = λ f. one.2 (with-value s t v one.0 value g m ∙ f);
+          },
+        ))
   ]
 
   -- and that is a candidate
@@ -136,7 +142,7 @@ module _ (k : Known) (b : Body) (passes : List ℕ → Bool) (arity : ℕ) where
           reached = subst (λ (x : ℕ). IsReached k b passes arity (with_element s v x) (value_with k arity v value x) t) (sym n.2) one.2;
         })
         | inr isnt ↦ absurd (one.2.possible (ap (conjunction (value_with k arity v value one.0))
-          (refuted-value (with_element s v one.0) t (candidates.others one.0 one.1 isnt) one.2.goes_on) ∙ conjunction-False (value_with k arity v value one.0)))
+            (refuted-value (with_element s v one.0) t (candidates.others one.0 one.1 isnt) one.2.goes_on) ∙ conjunction-False (value_with k arity v value one.0)))
       ]
 
   -- what is reached with an element is reached
@@ -153,9 +159,9 @@ module _ (k : Known) (b : Body) (passes : List ℕ → Bool) (arity : ℕ) where
         goes_on = GoesOn-without s t v x candidates.unassigned h.goes_on;
         possible = elim (cases_lt v arity) [
           | inl l ↦ (let m : v < length t = omega (arith, h.tuple.many) in
-            λ f. h.possible (ap₂ conjunction (value_with-parameter k arity v value x l) (ap (completed_value k b) (with_tuple-first s t v x m)) ∙ f))
+              λ f. h.possible (ap₂ conjunction (value_with-parameter k arity v value x l) (ap (completed_value k b) (with_tuple-first s t v x m)) ∙ f))
           | inr g ↦ (let m : length t ≤ v = omega (arith, h.tuple.many) in
-            λ f. h.possible (sym (with-value s t v x value g m) ∙ each-from_some_truth value k.size (completed_with k b (with_tuple s t) v) x below
+              λ f. h.possible (sym (with-value s t v x value g m) ∙ each-from_some_truth value k.size (completed_with k b (with_tuple s t) v) x below
               (sym (ap (conjunction value) (chosen-value s t v full (omega (arith, h.tuple.many)) m candidates.unassigned)) ∙ f)))
         ];
       }
@@ -181,13 +187,13 @@ module _ (k : Known) (b : Body) (passes : List ℕ → Bool) (arity : ℕ) where
   IsReached-closed s value t full few placed closed same passed possible =
       let len : length t ≡ arity = ap length same ∙ length-take-le arity s.elements (omega (arith, full.elements)) in
       let each : (v : ℕ) → v < arity → slice_index t v ≡ slice_index s.elements v =
-        λ v l. ap (λ (u : List ℕ). get_or u v 0) same ∙ get_or-take arity s.elements v 0 l in
+      λ v l. ap (λ (u : List ℕ). get_or u v 0) same ∙ get_or-take arity s.elements v 0 l in
       let on : GoesOn s t = λ v l e. each v (omega (arith, len)) in
       record {
         tuple = record {
           many = len;
           below = All-from_get_or (λ x. x < k.size) t 0 (λ v l. let m : v < arity = omega (arith, len) in
-            subst (λ (y : ℕ). y < k.size) (sym (each v m)) (placed.parameters v m (closed v m)));
+              subst (λ (y : ℕ). y < k.size) (sym (each v m)) (placed.parameters v m (closed v m)));
         };
         passed = passed;
         goes_on = on;

@@ -35,16 +35,16 @@ pub IsPlaced-with : (k : Known) (arity : ℕ) (s : Stage) (v x : ℕ) → IsFull
 IsPlaced-with k arity s v x full l less h = record {
   elements = λ i. elim (cases_order i v) [
     | inl e ↦ subst (λ (j : ℕ). slice_index (set s.elements v x) j < max 1 k.size) (sym e)
-      (subst (λ (y : ℕ). y < max 1 k.size) (sym (get_or-set_same s.elements v x 0 (omega (arith, full.elements)))) (omega arith))
+        (subst (λ (y : ℕ). y < max 1 k.size) (sym (get_or-set_same s.elements v x 0 (omega (arith, full.elements)))) (omega arith))
     | inr o ↦ (let apart : i ≡ v → ⊥ = λ q. elim o [ inl lt ↦ absurd (omega arith) | inr gt ↦ absurd (omega arith) ] in
-      subst (λ (y : ℕ). y < max 1 k.size) (sym (get_or-set_other s.elements v i x 0 (λ q. apart q))) (h.elements i))
+        subst (λ (y : ℕ). y < max 1 k.size) (sym (get_or-set_other s.elements v i x 0 (λ q. apart q))) (h.elements i))
   ];
   parameters = λ i m e. elim (cases_order i v) [
     | inl q ↦ subst (λ (j : ℕ). slice_index (set s.elements v x) j < k.size) (sym q)
-      (subst (λ (y : ℕ). y < k.size) (sym (get_or-set_same s.elements v x 0 (omega (arith, full.elements)))) less)
+        (subst (λ (y : ℕ). y < k.size) (sym (get_or-set_same s.elements v x 0 (omega (arith, full.elements)))) less)
     | inr o ↦ (let apart : i ≡ v → ⊥ = λ q. elim o [ inl lt ↦ absurd (omega arith) | inr gt ↦ absurd (omega arith) ] in
-      subst (λ (y : ℕ). y < k.size) (sym (get_or-set_other s.elements v i x 0 (λ q. apart q)))
-      (h.parameters i m (sym (get_or-set_other s.unassigned v i false false (λ q. apart q)) ∙ e)))
+        subst (λ (y : ℕ). y < k.size) (sym (get_or-set_other s.elements v i x 0 (λ q. apart q)))
+        (h.parameters i m (sym (get_or-set_other s.unassigned v i false false (λ q. apart q)) ∙ e)))
   ];
 }
 
@@ -66,7 +66,7 @@ module _ (k : Known) (b : Body) (passes : List ℕ → Bool) (arity : ℕ) (s : 
       → IsFirstOfBoth (slice_cmp nat_cmp) best (IsReached k b passes arity after more) o → IsFirstOfBoth (slice_cmp nat_cmp) best (IsReached k b passes arity s value) o
   first-without i l own more after o pending there ground is same also h =
       let first = subst (λ (a : Stage). IsFirstOfBoth (slice_cmp nat_cmp) best (IsReached k b passes arity a (conjunction value own)) o) same
-        (subst (λ (m : Truth). IsFirstOfBoth (slice_cmp nat_cmp) best (IsReached k b passes arity after m) o) also h) in
+      (subst (λ (m : Truth). IsFirstOfBoth (slice_cmp nat_cmp) best (IsReached k b passes arity after m) o) also h) in
       IsFirstOf-same (slice_cmp nat_cmp) (λ t. (best ≡ Some t) ⊎ IsReached k b passes arity (without_literal s i) (conjunction value own) t)
       (λ t. (best ≡ Some t) ⊎ IsReached k b passes arity s value t) o
       (λ t c. elim c [ inl e ↦ inl e | inr r ↦ inr (IsReached-before k b passes arity s i l value own t pending there ground is r) ])
@@ -82,8 +82,8 @@ module _ (k : Known) (b : Body) (passes : List ℕ → Bool) (arity : ℕ) (s : 
     first-with n x more after first o at same also h g =
         let Now = IsReached k b passes arity (with_element s v (element_at elements n)) (value_with k arity v value (element_at elements n)) in
         let now = subst (λ (y : ℕ). IsFirstOfBoth (slice_cmp nat_cmp) first (IsReached k b passes arity (with_element s v y) (value_with k arity v value y)) o) at
-          (subst (λ (a : Stage). IsFirstOfBoth (slice_cmp nat_cmp) first (IsReached k b passes arity a (value_with k arity v value x)) o) same
-            (subst (λ (m : Truth). IsFirstOfBoth (slice_cmp nat_cmp) first (IsReached k b passes arity after m) o) also g)) in
+        (subst (λ (a : Stage). IsFirstOfBoth (slice_cmp nat_cmp) first (IsReached k b passes arity a (value_with k arity v value x)) o) same
+        (subst (λ (m : Truth). IsFirstOfBoth (slice_cmp nat_cmp) first (IsReached k b passes arity after m) o) also g)) in
         IsFirstOf-same (slice_cmp nat_cmp) (λ t. ((best ≡ Some t) ⊎ IsReachedWith k b passes arity s value v elements n t) ⊎ Now t)
         (λ t. (best ≡ Some t) ⊎ IsReachedWith k b passes arity s value v elements (n + 1) t) o
         (λ t c. elim c [
@@ -95,7 +95,7 @@ module _ (k : Known) (b : Body) (passes : List ℕ → Bool) (arity : ℕ) (s : 
           | inr r ↦ elim (cases_lt r.number n) [
             | inl l ↦ inl (inr (record { number = r.number; before = l; reached = r.reached }))
             | inr m ↦ (let l : r.number < n + 1 = r.before in let e : r.number ≡ n = omega (arith, l) in
-              inr (subst (λ (y : ℕ). IsReached k b passes arity (with_element s v (element_at elements y)) (value_with k arity v value (element_at elements y)) t) e r.reached))
+                inr (subst (λ (y : ℕ). IsReached k b passes arity (with_element s v (element_at elements y)) (value_with k arity v value (element_at elements y)) t) e r.reached))
           ]
         ])
         (IsFirstOf-then (slice_cmp nat_cmp) nat_list_cmp_total (λ t. (best ≡ Some t) ⊎ IsReachedWith k b passes arity s value v elements n t) Now first o h now)
@@ -112,8 +112,11 @@ module _ (k : Known) (b : Body) (passes : List ℕ → Bool) (arity : ℕ) (s : 
         IsFirstOf-same (slice_cmp nat_cmp) (λ t. (best ≡ Some t) ⊎ IsReachedWith k b passes arity s value v elements n t)
         (λ t. (best ≡ Some t) ⊎ IsReached k b passes arity s value t) o
         (λ t c. elim c [ inl e ↦ inl e | inr r ↦ inr (IsReached-from_IsReachedWith k b passes arity s value v elements n t full few candidates (omega (arith, all)) r) ])
-        (λ t c. elim c [ inl e ↦ inl e | inr r ↦ inr (subst (λ (m : ℕ). IsReachedWith k b passes arity s value v elements m t) (sym all)
-          (IsReachedWith-from_IsReached k b passes arity s value v elements t full few candidates r)) ])
+        (λ t c. elim c [
+          | inl e ↦ inl e
+          | inr r ↦ inr (subst (λ (m : ℕ). IsReachedWith k b passes arity s value v elements m t) (sym all)
+              (IsReachedWith-from_IsReached k b passes arity s value v elements t full few candidates r))
+        ])
         h
 
     -- the best so far is of as many elements

@@ -38,7 +38,6 @@ module _ {A : Type 0} (xs ys : List A) (n : ℕ) (same : length xs ≡ n) where
     | inr ge ↦ later-kept v d ge
   ])
 
-
 length-marks : (t : List ℕ) → length (map (λ x. false) t) ≡ length t
 length-marks [] = refl
 length-marks (x ∷ t) = ap suc (length-marks t)

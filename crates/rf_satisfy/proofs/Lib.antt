@@ -1,4 +1,3 @@
-pub mod ChosenNodes
 pub mod Keys
 pub mod Counts
 pub mod PeelingLemmas
@@ -6,13 +5,11 @@ pub mod ContainerCounts
 pub mod Firsts
 pub mod ContainerLemmas
 pub mod ObjectCounts
-pub mod AssignmentLemmas
-pub mod EvaluationLemmas
-pub mod TermLemmas
 pub mod TupleLemmas
 pub mod NodeListLemmas
 pub mod SuspectLemmas
 pub mod SuspectEdgeLemmas
-pub mod PruningLemmas
 pub mod EdgeEndLemmas
-pub mod NeighbourLemmas
+pub mod KnownLemmas
+pub mod BrokenLemmas
+pub mod NumberLemmas

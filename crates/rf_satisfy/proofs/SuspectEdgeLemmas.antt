@@ -1,4 +1,4 @@
--- A loop through the edges that keeps the first ends at which what is asserted isn't satisfied.
+-- A loop through the edges that keeps the first ends of an edge by which what is asserted isn't satisfied.
 use Rattle.std.proofs.Common.{◌≡◌, ℕ, ◌+◌, ◌<◌, ◌≤◌, Bool, true, false, ◌&&◌, ◌||◌, eqb, Option, Some, None, List, [], ◌∷◌, length, map, take, get_or, refl, sym, ap, ◌∙◌, subst, inl, inr, arith}
 use Rattle.std.specs.Prelude.{slice_index}
 use Rattle.std.specs.List.{list_any}
@@ -11,34 +11,19 @@ use Rattle.std.proofs.lemmas.Bool.{cases_Bool, and_parts, and_from, both_ways, e
 use Rattle.std.proofs.lemmas.List.{take_all}
 use Rattle.std.proofs.lemmas.List.Elements.{All-cons, All-nil}
 use Rattle.std.proofs.lemmas.List.Folds.{list_any_more}
-use Rattle.rf_values.specs.declared.truth.Truth.TheVariants.{False}
-use Rattle.rf_problem.specs.Asserted.{match_each, matches}
 use Rattle.rf_problem.specs.declared.problem.Problem.{Problem}
 use Rattle.rf_problem.specs.declared.symbol.Symbol.TheVariants.{Reference}
-use Rattle.rf_graph.specs.Graph.{FitsEdge, has_edge, origin_of, size_of}
+use Rattle.rf_graph.specs.Graph.{FitsEdge, has_edge, size_of}
 use Rattle.rf_graph.specs.declared.graph.Edge.{Edge}
 use Rattle.rf_graph.specs.declared.graph.Graph.{Graph}
 use Rattle.rf_satisfy.specs.Edges.{is_edge}
-use Rattle.rf_satisfy.specs.Suspects.{is_broken, is_suspect}
+use Rattle.rf_satisfy.specs.Suspects.{is_denied_at, is_excess}
 use Rattle.rf_satisfy.specs.Tuples.{IsBefore, IsFirst, IsTuple, earlier}
 use Rattle.rf_satisfy.proofs.TupleLemmas.{IsFirst-earlier, IsFirst-same}
-
--- two arguments match one by one
-pub match_each-two : (args : List (Option ℕ)) (x y : ℕ) → length args ≡ 2 → match_each args (x ∷ y ∷ []) ≡ (matches (get_or args 0 None) x && (matches (get_or args 1 None) y && true))
-match_each-two [] x y e = absurd (omega arith)
-match_each-two (a ∷ []) x y e = absurd (omega arith)
-match_each-two (a ∷ b ∷ []) x y e = refl
-match_each-two (a ∷ b ∷ c ∷ args) x y e = absurd (omega arith)
 
 and-false : (a : Bool) → (a && false) ≡ false
 and-false true = refl
 and-false false = refl
-
-pub unmatched-first : (args : List (Option ℕ)) (x y : ℕ) → length args ≡ 2 → matches (get_or args 0 None) x ≡ false → match_each args (x ∷ y ∷ []) ≡ false
-unmatched-first args x y e f = match_each-two args x y e ∙ rw f refl
-
-pub unmatched-second : (args : List (Option ℕ)) (x y : ℕ) → length args ≡ 2 → matches (get_or args 1 None) y ≡ false → match_each args (x ∷ y ∷ []) ≡ false
-unmatched-second args x y e f = match_each-two args x y e ∙ rw f (and-false (matches (get_or args 0 None) x))
 
 IsBefore-itself : (t : List ℕ) → IsBefore t t → ⊥
 IsBefore-itself t b = turned (slice_cmp nat_cmp t t) b (order.antisymm t t)
@@ -61,9 +46,9 @@ ends_of r n e (x ∷ y ∷ []) h t =
     λ i. sym (eqb-true e.from x both.0) i ∷ sym (eqb-true e.to y both.1) i ∷ []
 ends_of r n e (x ∷ y ∷ z ∷ u) h t = absurd (let l = h.len in omega arith)
 
-module _ (p : Problem) (g : Graph) (r : ℕ) (args : List (Option ℕ)) where
+module _ (p : Problem) (g : Graph) (r : ℕ) where
   abbrev suspect : List ℕ → Bool
-  suspect t = is_suspect p g (Reference r) args False t
+  suspect t = is_denied_at p g (Reference r) t
 
   abbrev at_edge : Edge → List ℕ → Bool
   at_edge e t = is_edge r (slice_index t 0) (slice_index t 1) e && suspect t
@@ -114,12 +99,7 @@ module _ (p : Problem) (g : Graph) (r : ℕ) (args : List (Option ℕ)) where
 
   -- all edges of the graph
   pub edges-ended : (items : List Edge) (i : ℕ) (first : Option (List ℕ)) → length items ≤ i → items ≡ g.edges
-      → IsFirst (size_of g) 2 (among (take i items)) first → IsFirst (size_of g) 2 suspect first
+      → IsFirst (size_of g) 2 (among (take i items)) first → IsFirst (size_of g) 2 (is_excess p g (Reference r)) first
   edges-ended items i first l e h =
       let whole : take i items ≡ g.edges = take_all i items l ∙ e in
-      IsFirst-same (size_of g) 2 (among g.edges) suspect first (λ t u. elim (cases_Bool (suspect t)) [
-        | inl s ↦ (let one = and_parts (match_each args (map (origin_of g) t)) (has_edge g r (slice_index t 0) (slice_index t 1) && is_broken p g (Reference r) t) s in
-            let edge = (and_parts (has_edge g r (slice_index t 0) (slice_index t 1)) (is_broken p g (Reference r) t) one.1).0 in
-            and_from (has_edge g r (slice_index t 0) (slice_index t 1)) (suspect t) edge s ∙ sym s)
-        | inr s ↦ rw s (and-false (has_edge g r (slice_index t 0) (slice_index t 1)))
-      ]) (rw whole at h)
+      IsFirst-same (size_of g) 2 (among g.edges) (is_excess p g (Reference r)) first (λ t u. refl) (rw whole at h)

@@ -24,7 +24,7 @@ use Rattle.rf_graph.specs.First.{breaks, first_broken}
 use Rattle.rf_graph.specs.Graph.{origin_of, size_of}
 use Rattle.rf_graph.specs.declared.graph.Graph.{Graph}
 use Rattle.rf_graph.specs.declared.verdict.Violation.TheVariants.{Asserted}
-use Rattle.rf_satisfy.specs.Suspects.{is_broken, is_stray_among, is_suspect, is_suspect_by, is_unwritten_at}
+use Rattle.rf_satisfy.specs.Suspects.{is_broken, is_stray_among, is_stray_from, is_suspect, is_suspect_by, is_unwritten_at}
 use Rattle.rf_satisfy.specs.Tuples.{ArePassing, IsFirst, IsTuple, earlier, first_passing}
 use Rattle.rf_satisfy.proofs.TupleLemmas.{IsFirst-earlier, IsFirst-same, first_passing-from_IsFirst, first_passing-none, first_tuple-is}
 
@@ -118,7 +118,7 @@ breaks-kept keep h (a ∷ rest) e = elim (cases_Bool (keep a)) [
   | inr k ↦ or_right (keep a && breaks a.value h) (list_any (λ a. keep a && breaks a.value h) rest) (breaks-kept keep h rest (rw k at e))
 ]
 
-list_any-weaker : (p q : Assertion → Bool) (xs : List Assertion) → ((a : Assertion) → p a ≡ true → q a ≡ true) → list_any p xs ≡ true → list_any q xs ≡ true
+pub list_any-weaker : (p q : Assertion → Bool) (xs : List Assertion) → ((a : Assertion) → p a ≡ true → q a ≡ true) → list_any p xs ≡ true → list_any q xs ≡ true
 list_any-weaker p q [] w e = e
 list_any-weaker p q (x ∷ xs) w e = elim (or_cases (p x) (list_any p xs) e) [
   | inl h ↦ or_left (q x) (list_any q xs) (w x h)
@@ -248,29 +248,9 @@ search-leaf p g s args value prefix found l h e =
 pub first_passing-from_start : (n k m : ℕ) (test : List ℕ → Bool) (o : Option (List ℕ)) → k ≡ m → o ≡ first_passing n (k - 0) [] test → o ≡ first_passing n m [] test
 first_passing-from_start n k m test o e h = let q : k - 0 ≡ m = omega arith in rw q at h
 
-stars : (t : List ℕ) → length t ≤ 4 → match_each (take (length t) (None ∷ None ∷ None ∷ None ∷ [])) t ≡ true
-stars [] l = refl
-stars (a ∷ []) l = refl
-stars (a ∷ b ∷ []) l = refl
-stars (a ∷ b ∷ c ∷ []) l = refl
-stars (a ∷ b ∷ c ∷ d ∷ []) l = refl
-stars (a ∷ b ∷ c ∷ d ∷ e ∷ t) l = absurd (omega arith)
-
 or-false : (b : Bool) → (b || false) ≡ b
 or-false true = refl
 or-false false = refl
-
--- an error predicate is one that is stated to be false everywhere
-pub error_is_suspect : (p : Problem) (g : Graph) (q m : ℕ) → m ≤ 4 → (predicate_at p.predicates q).is_error ≡ true
-    → (t : List ℕ) → IsTuple (size_of g) m t → is_suspect p g (Predicate q) (take m (None ∷ None ∷ None ∷ None ∷ [])) False t ≡ is_unwritten_at p g (Predicate q) t
-error_is_suspect p g q m l e t h =
-    let len : length (map (origin_of g) t) ≡ m = length-map t (origin_of g) ∙ h.len in
-    let any = stars (map (origin_of g) t) (omega arith) in
-    let star : match_each (take m (None ∷ None ∷ None ∷ None ∷ [])) (map (origin_of g) t) ≡ true = rw len at any in
-    rw (star, e, or-false (holds p g (Predicate q) t)) refl
-
-pub no_error : (p : Problem) (g : Graph) (q : ℕ) → (predicate_at p.predicates q).is_error ≡ false → (t : List ℕ) → is_unwritten_at p g (Predicate q) t ≡ false
-no_error p g q e t = rw e refl
 
 when-breaks : (b held : Bool) → list_any (λ v. breaks v held) (when b True) ≡ (b && not held)
 when-breaks true held = or-false (not held)
@@ -329,49 +309,16 @@ module _ (p : Problem) (g : Graph) (c : ℕ) where
 
   -- a loop through the objects
   module _ (o : ℕ) (first : Option (List ℕ)) (so_far : IsFirst (size_of g) 1 (is_stray_among p g c o) first) where
-    pub strays-more : (other : Option (List ℕ)) → is_literal o ≡ true → IsFirst (size_of g) 1 (is_suspect p g (Class c) (Some o ∷ []) True) other
+    pub strays-more : (other : Option (List ℕ)) → IsFirst (size_of g) 1 (is_stray_from p g c o) other
         → IsFirst (size_of g) 1 (is_stray_among p g c (o + 1)) (earlier first other)
-    strays-more other own h = IsFirst-same (size_of g) 1 (λ t. is_stray_among p g c o t || is_suspect p g (Class c) (Some o ∷ []) True t) (is_stray_among p g c (o + 1)) (earlier first other)
-        (λ t u. rw (add-one, own) refl)
-        (IsFirst-earlier (size_of g) 1 (is_stray_among p g c o) (is_suspect p g (Class c) (Some o ∷ []) True) first other so_far h)
-
-    pub strays-same : is_literal o ≡ false → IsFirst (size_of g) 1 (is_stray_among p g c (o + 1)) first
-    strays-same other = IsFirst-same (size_of g) 1 (is_stray_among p g c o) (is_stray_among p g c (o + 1)) first (λ t u. rw (add-one, other, or-false (is_stray_among p g c o t)) refl) so_far
+    strays-more other h = IsFirst-same (size_of g) 1 (λ t. is_stray_among p g c o t || is_stray_from p g c o t) (is_stray_among p g c (o + 1)) (earlier first other)
+        (λ t u. rw add-one refl)
+        (IsFirst-earlier (size_of g) 1 (is_stray_among p g c o) (is_stray_from p g c o) first other so_far h)
 
   pub strays-ended : (n i : ℕ) (first : Option (List ℕ)) → n ≡ length p.objects → ((x : ℕ) → x < size_of g → origin_of g x < n) → i ≡ n
       → IsFirst (size_of g) 1 (is_stray_among p g c i) first → IsFirst (size_of g) 1 (is_unwritten_at p g (Class c)) first
   strays-ended n i first count from all h = IsFirst-same (size_of g) 1 (is_stray_among p g c i) (is_unwritten_at p g (Class c)) first
       (λ t u. ap (λ (k : ℕ). is_stray_among p g c k t) (all ∙ count) ∙ strays (λ x l. subst (λ (k : ℕ). origin_of g x < k) count (from x l)) t u) h
-
-or-assoc : (a b c : Bool) → ((a || b) || c) ≡ (a || (b || c))
-or-assoc true b c = refl
-or-assoc false b c = refl
-
--- a loop through the assertions
-module _ (p : Problem) (g : Graph) (s : Symbol) (n m : ℕ) (items : List Assertion) (i : ℕ) (a : Assertion) (first : Option (List ℕ))
-    (l : i < length items) (at : a ≡ get_or items i a) (so_far : IsFirst n m (λ t. is_unwritten_at p g s t || list_any (is_suspect_by p g s t) (take i items)) first) where
-  one_more_of : (t : List ℕ) → list_any (is_suspect_by p g s t) (take (i + 1) items) ≡ (list_any (is_suspect_by p g s t) (take i items) || is_suspect_by p g s t a)
-  one_more_of t = list_any_more (is_suspect_by p g s t) items i a l ∙ ap (λ (b : Assertion). list_any (is_suspect_by p g s t) (take i items) || is_suspect_by p g s t b) (sym at)
-
-  pub suspects-more : (other : Option (List ℕ)) → same_symbol a.symbol s ≡ true → IsFirst n m (is_suspect p g s a.args a.value) other
-      → IsFirst n m (λ t. is_unwritten_at p g s t || list_any (is_suspect_by p g s t) (take (i + 1) items)) (earlier first other)
-  suspects-more other same h = IsFirst-same n m (λ t. (is_unwritten_at p g s t || list_any (is_suspect_by p g s t) (take i items)) || is_suspect p g s a.args a.value t)
-      (λ t. is_unwritten_at p g s t || list_any (is_suspect_by p g s t) (take (i + 1) items)) (earlier first other)
-      (λ t u. or-assoc (is_unwritten_at p g s t) (list_any (is_suspect_by p g s t) (take i items)) (is_suspect p g s a.args a.value t)
-      ∙ ap (λ (b : Bool). is_unwritten_at p g s t || b) (sym (one_more_of t ∙ (let e : is_suspect_by p g s t a ≡ is_suspect p g s a.args a.value t = rw same refl in rw e refl))))
-      (IsFirst-earlier n m (λ t. is_unwritten_at p g s t || list_any (is_suspect_by p g s t) (take i items)) (is_suspect p g s a.args a.value) first other so_far h)
-
-  pub suspects-same : same_symbol a.symbol s ≡ false → IsFirst n m (λ t. is_unwritten_at p g s t || list_any (is_suspect_by p g s t) (take (i + 1) items)) first
-  suspects-same other = IsFirst-same n m (λ t. is_unwritten_at p g s t || list_any (is_suspect_by p g s t) (take i items))
-      (λ t. is_unwritten_at p g s t || list_any (is_suspect_by p g s t) (take (i + 1) items)) first
-      (λ t u. ap (λ (b : Bool). is_unwritten_at p g s t || b) (sym (one_more_of t ∙ (let e : is_suspect_by p g s t a ≡ false = rw other refl in rw e (or-false (list_any (is_suspect_by p g s t) (take i items)))))))
-      so_far
-
-pub suspects-ended : (p : Problem) (g : Graph) (s : Symbol) (n m : ℕ) (items : List Assertion) (i : ℕ) (first : Option (List ℕ)) → length items ≤ i → items ≡ p.assertions
-    → IsFirst n m (λ t. is_unwritten_at p g s t || list_any (is_suspect_by p g s t) (take i items)) first → IsFirst n m (is_broken p g s) first
-suspects-ended p g s n m items i first l e h =
-    let whole : take i items ≡ p.assertions = take_all i items l ∙ e in
-    IsFirst-same n m (λ t. found p g s t) (is_broken p g s) first (λ t u. found-is p g s t) (rw whole at h)
 
 -- the first violation of a symbol is at the first tuple
 pub first_broken-is : (p : Problem) (g : Graph) (s : Symbol) (o : Option (List ℕ)) → IsFirst (size_of g) (arity_of p.predicates s) (is_broken p g s) o

@@ -6,12 +6,9 @@ pub mod ContainerOf
 pub mod Peeling
 pub mod Least
 pub mod Objects
-pub mod ChosenNodes
-pub mod Evaluation
 pub mod NodeLists
-pub mod Pruning
 pub mod Suspects
-pub mod Terms
 pub mod SymbolKinds
 pub mod Tuples
 pub mod Indexed
+pub mod GraphKnown

@@ -1,43 +1,37 @@
 //! The first tuple of nodes at which what is asserted of a symbol isn't satisfied.
 //!
-//! A tuple is tried only where an assertion asks for it: at the nodes whose origins match its
-//! arguments, of an error predicate at all nodes, and of an enum at the nodes of its literals.
+//! A tuple is tried only where the symbol holds (`excess`), where an assertion wants it to hold, at the
+//! nodes whose origins match its arguments, and of an enum at the nodes of its literals.
 
-ghost use Rattle.std.specs.Prelude.{◌≡◌, ◌-◌, ◌<◌, ◌≤◌, ℕ, All, IfOk, IsTrue, not, true, false, length, map, take, [], ◌&&◌};
+ghost use Rattle.std.specs.Prelude.{◌≡◌, ◌<◌, ◌≤◌, ℕ, IfOk, IsTrue, List, false, length};
 ghost use Rattle.std.specs.List.{list_any};
-ghost use Rattle.std.specs.Option.{is_some};
-ghost use Rattle.rf_values.specs.declared.truth.Truth.TheVariants.{False, True};
-ghost use Rattle.rf_problem.specs.Asserted.{asserted, is_literal_of, match_each, matches};
-ghost use Rattle.rf_problem.specs.Parts.{arity_of, object_at, same_symbol};
-ghost use Rattle.rf_graph.specs.Evaluate.{holds};
-ghost use Rattle.rf_graph.specs.First.{breaks, first_asserted, first_broken};
-ghost use Rattle.rf_graph.specs.Graph.{origin_of, size_of};
-ghost use Rattle.rf_satisfy.specs.Evaluation.{declares};
-ghost use Rattle.rf_satisfy.specs.SymbolKinds.{count_of, first_of_kind, symbol_of};
-ghost use Rattle.rf_satisfy.specs.Suspects.{is_broken, is_suspect, is_suspect_by, is_unwritten_at};
-ghost use Rattle.rf_satisfy.specs.Tuples.{ArePassing, IsFirst, first_passing};
+ghost use Rattle.rf_problem.specs.Asserted.{is_literal_of};
+ghost use Rattle.rf_problem.specs.Parts.{arity_of, object_at};
+ghost use Rattle.rf_graph.specs.First.{first_asserted, first_broken};
+ghost use Rattle.rf_graph.specs.Graph.{size_of};
+ghost use Rattle.rf_evaluate.specs.Kept.{AreKept};
+ghost use Rattle.rf_evaluate.specs.Known.{declares};
+ghost use Rattle.rf_satisfy.specs.GraphKnown.{graph_known};
+ghost use Rattle.rf_satisfy.specs.SymbolKinds.{AreNumbered, count_of, first_of_kind, number_of, symbol_of};
+ghost use Rattle.rf_satisfy.specs.Suspects.{assertion_at, is_broken, is_error_symbol, is_excess, is_lack_by, is_stray, is_stray_from, is_suspect, is_unwritten_at, speaks_at};
+ghost use Rattle.rf_satisfy.specs.Tuples.{ArePassing, IsFirst};
 
+use crate::excess::first_excess;
 use crate::graph_index::GraphIndex;
-use crate::suspect_edges::first_suspect_edge;
-use crate::suspects::first_from;
+use crate::node_lists::{no_rows, put};
+use crate::suspects::{breaks, first_from};
 use crate::tuples::earlier;
+use rf_evaluate::Closures;
 use rf_graph::Violation;
 use rf_problem::{Assertion, ObjectKind, Problem, Symbol};
 use rf_values::{Truth, Tuple};
 use std::alloc::{AllocError, Global};
 
-/// Whether some argument is any object.
-fn is_open(args: &[Option<u64>]) -> bool
-    ensures { result ≡ list_any (λ arg. not (is_some arg)) args.now }
-{
-    args.iter().any(|arg| arg.is_none())
-}
-
 /// The first tuple whose origins match the arguments, at which neither this value nor what is
 /// asserted altogether is satisfied.
 fn first_suspect(
-    alloc: Global,
     index: &GraphIndex<'_>,
+    closures: &mut Closures,
     symbol: Symbol,
     args: &[Option<u64>],
     value: Truth,
@@ -45,51 +39,13 @@ fn first_suspect(
     requires declared { IsTrue (declares index.now.problem symbol) }
     requires arity { length args.now ≡ arity_of index.now.problem.predicates symbol }
     requires few { length args.now ≤ 4 }
-    ensures { IfOk result (λ t.
+    requires kept { AreKept (graph_known index.now.problem index.now.graph) closures.old }
+    ensures kept { AreKept (graph_known index.now.problem index.now.graph) closures.new }
+    ensures first { IfOk result (λ t.
         IsFirst (size_of index.now.graph) (arity_of index.now.problem.predicates symbol)
         (is_suspect index.now.problem index.now.graph symbol args.now value) t) }
 {
-    match (symbol, value) {
-        (_, Truth::Unknown) => Ok(None),
-        (Symbol::Reference(r), Truth::False) if is_open(args) => {
-            first_suspect_edge(alloc, index, r, args)
-        }
-        _ => first_from(alloc, index, symbol, args, value, Tuple::of(&[])),
-    }
-}
-
-fn arity(index: &GraphIndex<'_>, predicate: u32) -> usize
-    requires declared { predicate < length index.now.problem.predicates }
-    ensures value { result ≡ arity_of index.now.problem.predicates (Symbol.Predicate predicate) }
-    ensures few { result ≤ 4 }
-{
-    index.problem().predicate(predicate).arity as usize
-}
-
-/// The first tuple at which a predicate holds, where it is an error predicate, and what is asserted of
-/// it isn't satisfied.
-fn first_error(
-    alloc: Global,
-    index: &GraphIndex<'_>,
-    predicate: u32,
-) -> Result<Option<Tuple>, AllocError>
-    requires declared { predicate < length index.now.problem.predicates }
-    ensures { IfOk result (λ t.
-        IsFirst (size_of index.now.graph) (arity_of index.now.problem.predicates (Symbol.Predicate predicate))
-        (is_unwritten_at index.now.problem index.now.graph (Symbol.Predicate predicate)) t) }
-{
-    if !index.problem().predicate(predicate).is_error {
-        return Ok(None);
-    }
-    let any = [None; 4];
-    let args = &any[..arity(index, predicate)];
-    first_suspect(
-        alloc,
-        index,
-        Symbol::Predicate(predicate),
-        args,
-        Truth::False,
-    )
+    first_from(index, closures, symbol, args, value, Tuple::of(&[]))
 }
 
 /// Whether an object is a literal of the enum of this number.
@@ -103,85 +59,211 @@ fn is_literal_of(index: &GraphIndex<'_>, object: u64, class: u32) -> bool
     }
 }
 
+/// The first node of an object, where that is a literal of the class, that hasn't the class, and at
+/// which what is asserted of the class isn't satisfied.
+fn first_of_literal(
+    index: &GraphIndex<'_>,
+    closures: &mut Closures,
+    class: u32,
+    object: u64,
+) -> Result<Option<Tuple>, AllocError>
+    requires declared { class < length index.now.problem.classes }
+    requires object { object < length index.now.problem.objects }
+    requires kept { AreKept (graph_known index.now.problem index.now.graph) closures.old }
+    ensures kept { AreKept (graph_known index.now.problem index.now.graph) closures.new }
+    ensures first { IfOk result (λ t. IsFirst (size_of index.now.graph) 1
+        (is_stray_from index.now.problem index.now.graph class object) t) }
+{
+    if !is_literal_of(index, object, class) {
+        return Ok(None);
+    }
+    first_suspect(
+        index,
+        closures,
+        Symbol::Class(class),
+        &[Some(object)],
+        Truth::True,
+    )
+}
+
 /// The first node of a literal of the class, where that is an enum, that hasn't the class, and at which
 /// what is asserted of the class isn't satisfied.
 fn first_literal(
-    alloc: Global,
     index: &GraphIndex<'_>,
+    closures: &mut Closures,
     class: u32,
 ) -> Result<Option<Tuple>, AllocError>
     requires declared { class < length index.now.problem.classes }
-    ensures { IfOk result (λ t.
+    requires kept { AreKept (graph_known index.now.problem index.now.graph) closures.old }
+    ensures kept { AreKept (graph_known index.now.problem index.now.graph) closures.new }
+    ensures first { IfOk result (λ t.
         IsFirst (size_of index.now.graph) 1
         (is_unwritten_at index.now.problem index.now.graph (Symbol.Class class)) t) }
 {
     let mut first = None;
     for object in 0..index.objects() {
-        if is_literal_of(index, object, class) {
-            let own = [Some(object)];
-            let other = first_suspect(alloc, index, Symbol::Class(class), &own, Truth::True)?;
-            first = earlier(first, other);
-        }
+        first = earlier(first, first_of_literal(index, closures, class, object)?);
     }
     Ok(first)
 }
 
-/// The first tuple at which neither what is asserted of a symbol unwritten nor what is asserted
-/// altogether is satisfied.
-fn first_unwritten(
-    alloc: Global,
+/// The same where the symbol is a class.
+fn first_stray(
     index: &GraphIndex<'_>,
+    closures: &mut Closures,
     symbol: Symbol,
 ) -> Result<Option<Tuple>, AllocError>
     requires declared { IsTrue (declares index.now.problem symbol) }
-    ensures { IfOk result (λ t.
+    requires kept { AreKept (graph_known index.now.problem index.now.graph) closures.old }
+    ensures kept { AreKept (graph_known index.now.problem index.now.graph) closures.new }
+    ensures first { IfOk result (λ t.
         IsFirst (size_of index.now.graph) (arity_of index.now.problem.predicates symbol)
-        (is_unwritten_at index.now.problem index.now.graph symbol) t) }
+        (is_stray index.now.problem index.now.graph symbol) t) }
 {
     match symbol {
-        Symbol::Class(class) => first_literal(alloc, index, class),
-        Symbol::Predicate(predicate) => first_error(alloc, index, predicate),
-        Symbol::Reference(_) | Symbol::Exists | Symbol::Equals => Ok(None),
+        Symbol::Class(class) => first_literal(index, closures, class),
+        _ => Ok(None),
     }
 }
 
-fn speaks_of(assertion: &Assertion, symbol: Symbol) -> bool
-    ensures { result ≡ same_symbol assertion.now.symbol symbol }
+/// Whether a predicate is one, and must hold nowhere.
+fn is_error(index: &GraphIndex<'_>, symbol: Symbol) -> bool
+    requires declared { IsTrue (declares index.now.problem symbol) }
+    ensures { result ≡ is_error_symbol index.now.problem symbol }
 {
-    assertion.symbol == symbol
+    match symbol {
+        Symbol::Predicate(predicate) => index.problem().predicate(predicate).is_error,
+        _ => false,
+    }
+}
+
+/// Whether an assertion of the symbol, written or not, may be broken where the symbol holds. The
+/// numbers are those of the assertions that speak of it.
+fn is_denied(index: &GraphIndex<'_>, symbol: Symbol, numbers: &[u64]) -> bool
+    requires declared { IsTrue (declares index.now.problem symbol) }
+    requires numbers { ArePassing (length index.now.problem.assertions) (speaks_at index.now.problem symbol) numbers.now }
+    ensures { result ≡ false → (t : List ℕ) → is_excess index.now.problem index.now.graph symbol t ≡ false }
+{
+    if is_error(index, symbol) {
+        return true;
+    }
+    for number in numbers {
+        if breaks(
+            index.problem().assertions.as_slice()[*number as usize].value,
+            true,
+        ) {
+            return true;
+        }
+    }
+    false
+}
+
+/// The first tuple at which a symbol holds, though what is asserted isn't satisfied by that.
+fn first_denied(
+    index: &GraphIndex<'_>,
+    closures: &mut Closures,
+    symbol: Symbol,
+    numbers: &[u64],
+) -> Result<Option<Tuple>, AllocError>
+    requires declared { IsTrue (declares index.now.problem symbol) }
+    requires numbers { ArePassing (length index.now.problem.assertions) (speaks_at index.now.problem symbol) numbers.now }
+    requires kept { AreKept (graph_known index.now.problem index.now.graph) closures.old }
+    ensures kept { AreKept (graph_known index.now.problem index.now.graph) closures.new }
+    ensures first { IfOk result (IsFirst (size_of index.now.graph) (arity_of index.now.problem.predicates symbol)
+        (is_excess index.now.problem index.now.graph symbol)) }
+{
+    if is_denied(index, symbol, numbers) {
+        first_excess(index, closures, symbol)
+    } else {
+        Ok(None)
+    }
+}
+
+/// The first tuple at which an assertion isn't satisfied that wants the symbol to hold there.
+fn first_wanted(
+    index: &GraphIndex<'_>,
+    closures: &mut Closures,
+    symbol: Symbol,
+    assertion: &Assertion,
+) -> Result<Option<Tuple>, AllocError>
+    requires declared { IsTrue (declares index.now.problem symbol) }
+    requires arity { length assertion.now.args ≡ arity_of index.now.problem.predicates symbol }
+    requires few { length assertion.now.args ≤ 4 }
+    requires kept { AreKept (graph_known index.now.problem index.now.graph) closures.old }
+    ensures kept { AreKept (graph_known index.now.problem index.now.graph) closures.new }
+    ensures first { IfOk result (λ t.
+        IsFirst (size_of index.now.graph) (arity_of index.now.problem.predicates symbol)
+        (λ u. is_lack_by index.now.problem index.now.graph symbol u assertion.now) t) }
+{
+    if !breaks(assertion.value, false) {
+        return Ok(None);
+    }
+    first_suspect(
+        index,
+        closures,
+        symbol,
+        assertion.args.as_slice(),
+        assertion.value,
+    )
+}
+
+/// The first tuple at which one of the assertions isn't satisfied that want the symbol to hold.
+fn first_lack(
+    index: &GraphIndex<'_>,
+    closures: &mut Closures,
+    symbol: Symbol,
+    numbers: &[u64],
+) -> Result<Option<Tuple>, AllocError>
+    requires declared { IsTrue (declares index.now.problem symbol) }
+    requires numbers { ArePassing (length index.now.problem.assertions) (speaks_at index.now.problem symbol) numbers.now }
+    requires kept { AreKept (graph_known index.now.problem index.now.graph) closures.old }
+    ensures kept { AreKept (graph_known index.now.problem index.now.graph) closures.new }
+    ensures first { IfOk result (λ t.
+        IsFirst (size_of index.now.graph) (arity_of index.now.problem.predicates symbol)
+        (λ u. list_any (λ i. is_lack_by index.now.problem index.now.graph symbol u (assertion_at index.now.problem symbol i)) numbers.now) t) }
+{
+    let mut first = None;
+    for number in numbers {
+        let assertion = &index.problem().assertions.as_slice()[*number as usize];
+        first = earlier(first, first_wanted(index, closures, symbol, assertion)?);
+    }
+    Ok(first)
 }
 
 /// The first tuple at which what is asserted of a symbol isn't satisfied.
 fn broken_tuple(
-    alloc: Global,
     index: &GraphIndex<'_>,
+    closures: &mut Closures,
     symbol: Symbol,
+    numbers: &[u64],
 ) -> Result<Option<Tuple>, AllocError>
     requires declared { IsTrue (declares index.now.problem symbol) }
-    ensures { IfOk result (λ t.
+    requires numbers { ArePassing (length index.now.problem.assertions) (speaks_at index.now.problem symbol) numbers.now }
+    requires kept { AreKept (graph_known index.now.problem index.now.graph) closures.old }
+    ensures kept { AreKept (graph_known index.now.problem index.now.graph) closures.new }
+    ensures first { IfOk result (λ t.
         IsFirst (size_of index.now.graph) (arity_of index.now.problem.predicates symbol)
         (is_broken index.now.problem index.now.graph symbol) t) }
 {
-    let mut first = first_unwritten(alloc, index, symbol)?;
-    for assertion in index.problem().assertions.iter() {
-        if speaks_of(assertion, symbol) {
-            let args = assertion.args.as_slice();
-            let other = first_suspect(alloc, index, symbol, args, assertion.value)?;
-            first = earlier(first, other);
-        }
-    }
-    Ok(first)
+    let denied = first_denied(index, closures, symbol, numbers)?;
+    let stray = first_stray(index, closures, symbol)?;
+    let lack = first_lack(index, closures, symbol, numbers)?;
+    Ok(earlier(denied, earlier(stray, lack)))
 }
 
 fn first_broken(
-    alloc: Global,
     index: &GraphIndex<'_>,
+    closures: &mut Closures,
     symbol: Symbol,
+    numbers: &[u64],
 ) -> Result<Option<Violation>, AllocError>
     requires declared { IsTrue (declares index.now.problem symbol) }
-    ensures { IfOk result (λ v. v ≡ first_broken index.now.problem index.now.graph symbol) }
+    requires numbers { ArePassing (length index.now.problem.assertions) (speaks_at index.now.problem symbol) numbers.now }
+    requires kept { AreKept (graph_known index.now.problem index.now.graph) closures.old }
+    ensures kept { AreKept (graph_known index.now.problem index.now.graph) closures.new }
+    ensures first { IfOk result (λ v. v ≡ first_broken index.now.problem index.now.graph symbol) }
 {
-    match broken_tuple(alloc, index, symbol)? {
+    match broken_tuple(index, closures, symbol, numbers)? {
         Some(tuple) => Ok(Some(Violation::Asserted(symbol, tuple))),
         None => Ok(None),
     }
@@ -217,16 +299,51 @@ fn symbol_of(kind: SymbolKind, number: u32) -> Symbol
     }
 }
 
+/// The number of a symbol, where it is of this kind.
+fn number_of(kind: SymbolKind, symbol: Symbol) -> Option<u32>
+    ensures { result ≡ number_of kind symbol }
+{
+    match (kind, symbol) {
+        (SymbolKind::Classes, Symbol::Class(number)) => Some(number),
+        (SymbolKind::References, Symbol::Reference(number)) => Some(number),
+        (SymbolKind::Predicates, Symbol::Predicate(number)) => Some(number),
+        _ => None,
+    }
+}
+
+/// For each symbol of a kind the numbers of the assertions that speak of it, in one pass over them.
+fn numbers_by_symbol(
+    alloc: Global,
+    problem: &Problem,
+    kind: SymbolKind,
+) -> Result<Vec<Vec<u64>>, AllocError>
+    ensures { IfOk result (λ rows. AreNumbered problem.now kind (length problem.now.assertions) rows.items) }
+{
+    let mut rows = no_rows(alloc, count_of(problem, kind))?;
+    for i in 0..problem.assertions.as_slice().len() {
+        match number_of(kind, problem.assertions.as_slice()[i].symbol) {
+            Some(number) => put(&mut rows, number as usize, i as u64)?,
+            None => {}
+        }
+    }
+    Ok(rows)
+}
+
 /// The first tuple at which what is asserted of a symbol of this kind isn't satisfied.
 fn first_of_kind(
     alloc: Global,
     index: &GraphIndex<'_>,
+    closures: &mut Closures,
     kind: SymbolKind,
 ) -> Result<Option<Violation>, AllocError>
-    ensures { IfOk result (λ v. v ≡ first_of_kind index.now.problem index.now.graph kind) }
+    requires kept { AreKept (graph_known index.now.problem index.now.graph) closures.old }
+    ensures kept { AreKept (graph_known index.now.problem index.now.graph) closures.new }
+    ensures first { IfOk result (λ v. v ≡ first_of_kind index.now.problem index.now.graph kind) }
 {
-    for number in 0..count_of(index.problem(), kind) as u32 {
-        let first = first_broken(alloc, index, symbol_of(kind, number))?;
+    let rows = numbers_by_symbol(alloc, index.problem(), kind)?;
+    for number in 0..rows.len() {
+        let symbol = symbol_of(kind, number as u32);
+        let first = first_broken(index, closures, symbol, rows[number].as_slice())?;
         if first.is_some() {
             return Ok(first);
         }
@@ -242,13 +359,14 @@ pub fn first_asserted(
 ) -> Result<Option<Violation>, AllocError>
     ensures { IfOk result (λ v. v ≡ first_asserted index.now.problem index.now.graph) }
 {
-    let class = first_of_kind(alloc, index, SymbolKind::Classes)?;
+    let mut closures = Closures::new(alloc);
+    let class = first_of_kind(alloc, index, &mut closures, SymbolKind::Classes)?;
     if class.is_some() {
         return Ok(class);
     }
-    let reference = first_of_kind(alloc, index, SymbolKind::References)?;
+    let reference = first_of_kind(alloc, index, &mut closures, SymbolKind::References)?;
     if reference.is_some() {
         return Ok(reference);
     }
-    first_of_kind(alloc, index, SymbolKind::Predicates)
+    first_of_kind(alloc, index, &mut closures, SymbolKind::Predicates)
 }

@@ -4,10 +4,7 @@
 //! in about as many steps as there are nodes and edges.
 #![tactic(auto)]
 
-mod anchors;
 mod asserted;
-mod assignment;
-mod claim;
 mod container_of;
 mod containers;
 mod cycle;
@@ -15,21 +12,18 @@ mod degrees;
 mod edge_ends;
 mod edges;
 mod ends;
-mod evaluate;
+mod excess;
 mod found;
 mod graph_index;
 mod judging;
+mod known;
 mod least;
 mod mirrors;
-mod neighbours;
 mod node_lists;
 mod nodes;
 mod objects;
 mod peeling;
-mod pruning;
 mod scopes;
-mod steps;
-mod suspect_edges;
 mod suspects;
 mod tables;
 mod tuples;

@@ -17,7 +17,7 @@ pub struct NodeLists {
 }
 
 /// So many empty lists.
-fn no_rows(alloc: Global, count: usize) -> Result<Vec<Vec<u64>>, AllocError>
+pub fn no_rows(alloc: Global, count: usize) -> Result<Vec<Vec<u64>>, AllocError>
     ensures len { IfOk result (λ rows. vec_len rows ≡ count) }
     ensures none { IfOk result (λ rows. (o : ℕ) → row_of rows.items o ≡ []) }
 {
@@ -29,7 +29,7 @@ fn no_rows(alloc: Global, count: usize) -> Result<Vec<Vec<u64>>, AllocError>
 }
 
 /// Puts a node after the others of its object.
-fn put(rows: &mut Vec<Vec<u64>>, object: usize, node: u64) -> Result<(), AllocError>
+pub fn put(rows: &mut Vec<Vec<u64>>, object: usize, node: u64) -> Result<(), AllocError>
     requires { object < vec_len rows.old }
     ensures len { OnOk result (vec_len rows.new ≡ vec_len rows.old) }
     ensures put { OnOk result (row_of rows.new.items object ≡ row_of rows.old.items object ++ node ∷ []) }

@@ -21,7 +21,7 @@ search-returns-in-Some-clause-first g t c =
     let l = one_at b.literals.now i c.in-Some.ensures.found in
     IfOk-then c.search.result c.search.ensures.first
     (λ o h. first-without k b passes arity s c.args.value c.args.best i l.0 c.in_ok-own.own c.and.result c.without.result o c.in-Some.ensures.pending l.1
-      (c.in-Some.ensures.ground l.0 l.1) (c.in_ok-own.ensures.value l.0 l.1) c.without.ensures c.and.ensures h)
+    (c.in-Some.ensures.ground l.0 l.1) (c.in_ok-own.ensures.value l.0 l.1) c.without.ensures c.and.ensures h)
 
 pub search_on-search-requires : goal.search_on-search-requires
 search_on-search-requires g t c =
@@ -35,9 +35,9 @@ search_on-search-requires g t c =
     let below : c.at-x.result < k.size = subst (λ (x : ℕ). x < k.size) (sym c.at-x.ensures) (element_at-below k.size c.in-Some.next.elements c.loop-number.number candidates.below within) in
     let placed : IsPlaced k arity c.with.result = subst (IsPlaced k arity) (sym c.with.ensures) (IsPlaced-with k arity s v c.at-x.result full candidates.variable below c.requires.placed) in
     let many = IsOfArity-with k c.args.hunt.now.body (g.T.TupleTest.passes c.args.hunt.now.test.now) arity s c.args.value c.args.best v c.in-Some.next.elements c.loop-number.number c.loop-number.first
-      c.requires.best c.loop-number.invariant.first in
+    c.requires.best c.loop-number.invariant.first in
     let fewer : remaining c.with.result + 1 ≡ remaining s =
-      subst (λ (r : Stage). remaining r + 1 ≡ remaining s) (sym c.with.ensures) (remaining-with s v c.at-x.result candidates.unassigned) in
+    subst (λ (r : Stage). remaining r + 1 ≡ remaining s) (sym c.with.ensures) (remaining-with s v c.at-x.result candidates.unassigned) in
     λ κs ls. (search (rules, fewer), (ls.0, (ls.1, (c.requires.sound, (c.requires.few, (placed, (many, c.loop-number.invariant.kept)))))))
 
 pub search_on-loop-number-preserved : goal.search_on-loop-number-preserved

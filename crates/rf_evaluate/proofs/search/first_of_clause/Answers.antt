@@ -7,7 +7,7 @@ use Rattle.rf_evaluate.proofs.search.first_of_clause.Goals as goal
 pub search-requires-clause-placed : goal.search-requires-clause-placed
 search-requires-clause-placed g c =
     let zeros : (v : ℕ) → slice_index c.of_clause-stage.result.elements v ≡ 0 =
-      λ v. zero-at c.of_clause-stage.result.elements v (ap (list_all (λ x. x == 0)) c.of_clause-stage.ensures.elements) in
+    λ v. zero-at c.of_clause-stage.result.elements v (ap (list_all (λ x. x == 0)) c.of_clause-stage.ensures.elements) in
     let begun : IsBegun c.body_of.result c.of_clause-stage.result c.args.arity c.args.clause.now = record {
       inner = c.body_of.ensures.inner;
       variables = c.body_of.ensures.variables;
@@ -26,7 +26,7 @@ search-requires-clause-placed g c =
 pub returns-clause-first : goal.returns-clause-first
 returns-clause-first g c =
     let zeros : (v : ℕ) → slice_index c.of_clause-stage.result.elements v ≡ 0 =
-      λ v. zero-at c.of_clause-stage.result.elements v (ap (list_all (λ x. x == 0)) c.of_clause-stage.ensures.elements) in
+    λ v. zero-at c.of_clause-stage.result.elements v (ap (list_all (λ x. x == 0)) c.of_clause-stage.ensures.elements) in
     let begun : IsBegun c.body_of.result c.of_clause-stage.result c.args.arity c.args.clause.now = record {
       inner = c.body_of.ensures.inner;
       variables = c.body_of.ensures.variables;

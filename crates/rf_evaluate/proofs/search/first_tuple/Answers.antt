@@ -11,7 +11,7 @@ pub first_of_clause-requires-clause-sound : goal.first_of_clause-requires-clause
 first_of_clause-requires-clause-sound g c =
     let k = g.K.Knowledge.known c.args.known.now in
     let declared : c.predicate-declared.result.now ≡ predicate_at k.problem.predicates c.args.predicate =
-      c.predicate-declared.ensures ∙ ap (λ (p : Problem). predicate_at p.predicates c.args.predicate) c.problem.ensures in
+    c.predicate-declared.ensures ∙ ap (λ (p : Problem). predicate_at p.predicates c.args.predicate) c.problem.ensures in
     sound-clause k c.args.predicate c.deref-clause-items.result.now c.loop-clause.clause-index c.clause-item.result c.requires.declared
     (c.deref-clause-items.ensures ∙ ap (λ (p : Predicate). p.clauses) declared) c.loop-clause-test.true c.clause-item.is
 
@@ -28,6 +28,6 @@ pub returns-clause-first : goal.returns-clause-first
 returns-clause-first g c =
     let k = g.K.Knowledge.known c.args.known.now in
     let declared : c.predicate-declared.result.now ≡ predicate_at k.problem.predicates c.args.predicate =
-      c.predicate-declared.ensures ∙ ap (λ (p : Problem). predicate_at p.predicates c.args.predicate) c.problem.ensures in
+    c.predicate-declared.ensures ∙ ap (λ (p : Problem). predicate_at p.predicates c.args.predicate) c.problem.ensures in
     first-found k c.args.predicate (g.T.TupleTest.passes c.args.test.now) c.loop-clause.clause-index c.predicate-declared.result.now.arity c.deref-clause-items.result.now c.loop-clause.first
     (ap (λ (p : Predicate). p.arity) declared) (c.deref-clause-items.ensures ∙ ap (λ (p : Predicate). p.clauses) declared) c.loop-clause-test.false c.loop-clause.invariant.first

@@ -8,11 +8,11 @@ use Rattle.rf_satisfy.proofs.SuspectLemmas.{matched-more, search-ended, search-f
 use Rattle.rf_satisfy.proofs.suspects.+search.Goals as goal
 use Rattle.rf_satisfy.proofs.suspects.+search.Goals.{then-found, else-found}
 
-pub returns-then-position-args : goal.returns-then-position-args
-returns-then-position-args t c =
+pub returns-then-position-args-clause-value : goal.returns-then-position-args-clause-value
+returns-then-position-args-clause-value t c =
     let whole : length c.args.prefix ≡ length c.args.args.now = rw c.as_slice-position.ensures.items at c.if-position-args.true in
     let leaf = search-leaf c.args.index.now.problem c.args.index.now.graph c.args.symbol c.args.args.now c.args.value c.args.prefix c.in_ok-found.found whole c.requires.matched
-    (rw c.as_slice.ensures.items at c.in_ok-found.ensures) in
+    (rw c.as_slice.ensures.items at c.in_ok-found.ensures.value) in
     elim c.if-found.branch [
       | then-found w ↦ w.result-is ∙ sym (leaf ∙ ap (λ (b : Bool). cond b (Some c.args.prefix) None) w.if-found.true)
       | else-found w ↦ w.result-is ∙ sym (leaf ∙ ap (λ (b : Bool). cond b (Some c.args.prefix) None) w.if-found.false)
@@ -31,17 +31,17 @@ first_from-requires t c =
     let longer : length c.longer.result ≡ length c.args.prefix + 1 = ap length c.longer.ensures ∙ len in
     let all : All (λ y. y < size_of c.args.index.now.graph) c.longer.result = rw c.longer.ensures (All-push (λ y. y < size_of c.args.index.now.graph) c.args.prefix x c.requires.nodes node.0) in
     let matched = matched-more (origin_of c.args.index.now.graph) c.args.args.now c.args.prefix x short c.requires.matched node.1 in
-    (search (rules, longer, short), (c.requires.declared, (c.requires.arity, (c.requires.few, (omega arith, (all, rw c.longer.ensures matched))))))
+    (search (rules, longer, short), (c.requires.declared, (c.requires.arity, (c.requires.few, (omega arith, (all, (rw c.longer.ensures matched, c.loop-x.invariant.kept)))))))
 
-pub returns-then-is_some : goal.returns-then-is_some
-returns-then-is_some t c =
+pub returns-then-is_some-clause-value : goal.returns-then-is_some-clause-value
+returns-then-is_some-clause-value t c =
     let raw : ArePassing (size_of c.args.index.now.graph) (λ x. matches (get_or c.args.args.now (length c.as_slice-position.result.now) None) (origin_of c.args.index.now.graph x)) c.nodes_matching-x-items.result.now = c.nodes_matching-x-items.ensures in
     let nodes : ArePassing (size_of c.args.index.now.graph) (λ x. matches (get_or c.args.args.now (length c.args.prefix) None) (origin_of c.args.index.now.graph x)) c.nodes_matching-x-items.result.now =
     rw c.as_slice-position.ensures.items at raw in
     let other = rw c.as_slice-position.ensures.items at c.if-position-args.false in
     let short : length c.args.prefix < length c.args.args.now = omega (arith, c.requires.short) in
     search-found c.args.index.now.problem c.args.index.now.graph c.args.symbol c.args.args.now c.args.value c.args.prefix c.nodes_matching-x-items.result.now short nodes
-    c.loop-x.x-index c.in_ok-first.first c.longer.result c.loop-x-test.true c.loop-x.invariant c.longer.ensures c.in_ok-first.ensures (sym c.is_some.ensures ∙ c.if-is_some.true)
+    c.loop-x.x-index c.in_ok-first.first c.longer.result c.loop-x-test.true c.loop-x.invariant.none c.longer.ensures c.in_ok-first.ensures.value (sym c.is_some.ensures ∙ c.if-is_some.true)
 
 pub loop-x-preserved : goal.loop-x-preserved
 loop-x-preserved t c =
@@ -50,15 +50,18 @@ loop-x-preserved t c =
     rw c.as_slice-position.ensures.items at raw in
     let other = rw c.as_slice-position.ensures.items at c.if-position-args.false in
     let short : length c.args.prefix < length c.args.args.now = omega (arith, c.requires.short) in
-    search-next c.args.index.now.problem c.args.index.now.graph c.args.symbol c.args.args.now c.args.value c.args.prefix c.nodes_matching-x-items.result.now short nodes
-    c.loop-x.x-index c.in_ok-first.first c.longer.result c.loop-x.invariant c.longer.ensures c.in_ok-first.ensures (sym c.is_some.ensures ∙ c.if-is_some.false)
+    record {
+      kept = c.first_from.ensures.kept;
+      none = search-next c.args.index.now.problem c.args.index.now.graph c.args.symbol c.args.args.now c.args.value c.args.prefix c.nodes_matching-x-items.result.now short nodes
+          c.loop-x.x-index c.in_ok-first.first c.longer.result c.loop-x.invariant.none c.longer.ensures c.in_ok-first.ensures.value (sym c.is_some.ensures ∙ c.if-is_some.false);
+    }
 
-pub returns : goal.returns
-returns t c =
+pub returns-clause-value : goal.returns-clause-value
+returns-clause-value t c =
     let raw : ArePassing (size_of c.args.index.now.graph) (λ x. matches (get_or c.args.args.now (length c.as_slice-position.result.now) None) (origin_of c.args.index.now.graph x)) c.nodes_matching-x-items.result.now = c.nodes_matching-x-items.ensures in
     let nodes : ArePassing (size_of c.args.index.now.graph) (λ x. matches (get_or c.args.args.now (length c.args.prefix) None) (origin_of c.args.index.now.graph x)) c.nodes_matching-x-items.result.now =
     rw c.as_slice-position.ensures.items at raw in
     let other = rw c.as_slice-position.ensures.items at c.if-position-args.false in
     let short : length c.args.prefix < length c.args.args.now = omega (arith, c.requires.short) in
     search-ended c.args.index.now.problem c.args.index.now.graph c.args.symbol c.args.args.now c.args.value c.args.prefix c.nodes_matching-x-items.result.now short nodes
-    (λ i l. c.loop-x.invariant i (omega arith))
+    (λ i l. c.loop-x.invariant.none i (omega arith))
