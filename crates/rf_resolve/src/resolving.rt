@@ -20,7 +20,8 @@ fn problem_of(alloc: Global, names: &Names) -> Result<Problem, AllocError>
     requires sound { fault_of names.now.declared.now ≡ None }
     ensures { IfOk result (λ p. IsResolved names.now.declared.now p) }
 {
-    match build(alloc, names)? {
+    let made = build(alloc, names)?;
+    match made {
         Some(problem) => Ok(problem),
         None => unreachable!(),
     }

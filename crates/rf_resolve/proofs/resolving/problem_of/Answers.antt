@@ -9,6 +9,6 @@ build-requires c =
 
 pub unreachable-requires : goal.unreachable-requires
 unreachable-requires c =
-    refused_never _ _ c.in-None.is c.in_ok-build.ensures.refused
+    refused_never _ _ c.in-None.is c.in_ok-made.ensures.refused
     (parts_fit c.requires.read.0 c.args.names.now.declared.now c.requires.read.2
     (passes c.args.names.now.declared.now c.requires.sound) c.requires.read.1)
