@@ -1,12 +1,12 @@
 -- The terms of arguments and the variables after them, one argument more at a time.
-use Rattle.std.proofs.Common.{◌≡◌, ◌<◌, ◌≤◌, ◌+◌, ◌∙◌, ℕ, suc, Bool, true, false, not, List, [], ◌∷◌, ◌++◌, filter, length, take, drop, get_or, arith, refl, sym, ap, inl, inr}
+use Rattle.std.proofs.Common.{◌≡◌, ◌<◌, ◌≤◌, ◌+◌, ◌∙◌, ℕ, suc, Bool, not, List, [], ◌∷◌, ◌++◌, filter, length, take, drop, get_or, arith, refl, sym, ap, inl, inr}
 use Rattle.std.proofs.lemmas.Bool.{cases_Bool}
 use Rattle.std.proofs.lemmas.Grind.{common_steps}
 use Rattle.std.proofs.lemmas.List.{take-append-drop, take_more}
 use Rattle.std.proofs.lemmas.List.Elements.{filter-append}
 use Rattle.rf_syntax.specs.declared.name.Name.{Name}
 use Rattle.rf_syntax.specs.declared.predicate.Param.{Param}
-use Rattle.rf_names.specs.Bodies.{term_of, terms_of, with_argument, with_variable, with_variables}
+use Rattle.rf_names.specs.Bodies.{term_of, terms_of, with_argument, with_variables}
 use Rattle.rf_names.specs.Declarations.{Declared, is_atom_argument}
 use Rattle.rf_build.specs.Arguments.{with_arguments}
 use Rattle.rf_names.proofs.VariableLemmas.{with_variable-longer, with_variables-append, with_variables-longer}

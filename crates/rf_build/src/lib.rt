@@ -5,8 +5,8 @@
 //! an atom's object or a variable (`terms`), variables are numbered as they come (`variables`), and each
 //! is quantified over its clause or inside the one negation that names it (`entries`).
 //!
-//! No rule is asked here. Where a name stands for nothing, its number is that of the first of the kind
-//! or past the last, and so the lists need not be the parts of a problem: then there is none.
+//! No rule is asked here. Where a name stands for nothing, or for several things, something stands in
+//! its place, and so the lists need not be the parts of a problem: then there is none.
 #![tactic(auto)]
 
 mod assertions;

@@ -1,6 +1,6 @@
 //! Numbers of arguments.
 
-ghost use Rattle.std.specs.Prelude.{◌≡◌, IfOk, length};
+ghost use Rattle.std.specs.Prelude.{◌≡◌, IfOk};
 ghost use Rattle.rf_names.specs.Offsets.{least_of};
 ghost use Rattle.rf_names.specs.LookUp.{can_be_closed, parameters_of};
 ghost use Rattle.rf_structure_rules.specs.StructureOffsets.{arity_offsets, assertion_arity, bad_arity, fits_call, literal_arity};
