@@ -1,3 +1,2 @@
 pub mod JoinedOffsets
-pub mod NumberedOffsets
 pub mod RepeatedNames

@@ -16,7 +16,7 @@ use denote.Ref.{Bor}
 use Rattle.rf_syntax.specs.declared.name.Name.{Name}
 use Rattle.rf_names.specs.Offsets.{least_of, lesser, offset_if}
 use Rattle.rf_names.specs.Texts.{is_text_of}
-use Rattle.rf_name_rules.specs.RuleOffsets.{repeated}
+use Rattle.rf_name_rules.specs.NameOffsets.{repeated}
 use Rattle.rf_names.proofs.LeastOffsets.{least_of_append}
 
 abbrev pub text_cmp : Bor (List ℕ) → Bor (List ℕ) → Ordering

@@ -1,1 +1,1 @@
-pub mod RuleOffsets
+pub mod NameOffsets

@@ -3,7 +3,7 @@
 ghost use Rattle.std.specs.Prelude.{◌≡◌, IfOk};
 ghost use Rattle.rf_names.specs.Offsets.{least_of};
 ghost use Rattle.rf_names.specs.LookUp.{assertion_symbols, sense_of};
-ghost use Rattle.rf_name_rules.specs.RuleOffsets.{ambiguous_literal, ambiguous_opposite, ambiguous_offsets, ambiguous_symbol, is_ambiguous, last_offset};
+ghost use Rattle.rf_name_rules.specs.NameOffsets.{ambiguous_literal, ambiguous_offsets, ambiguous_opposite, ambiguous_symbol, is_ambiguous, last_offset};
 
 use rf_names::{
     AssertDeclaration, Names, OffsetRule, ReferenceDeclaration, Sense, least_among,

@@ -4,7 +4,7 @@ ghost use Rattle.std.specs.Prelude.{◌≡◌, [], IfOk, map, filter, not};
 ghost use Rattle.rf_names.specs.Declarations.{param_names};
 ghost use Rattle.rf_names.specs.Offsets.{least_of};
 ghost use Rattle.rf_names.specs.Texts.{is_blank, is_text_of};
-ghost use Rattle.rf_name_rules.specs.RuleOffsets.{feature_names, reserved_members, reserved_names, params_apart, repeated, twice_offsets};
+ghost use Rattle.rf_name_rules.specs.NameOffsets.{feature_names, params_apart, repeated, reserved_members, reserved_names, twice_offsets};
 
 use rf_names::{
     ClassDeclaration, Declarations, OffsetRule, PredicateDeclaration, is_blank, least_among,

@@ -5,7 +5,7 @@ ghost use Rattle.std.specs.List.{flat_map};
 ghost use Rattle.rf_names.specs.LookUp.{assertion_symbols, has_new, no_class_decl, sense_of};
 ghost use Rattle.rf_names.specs.Texts.{is_text_of};
 ghost use Rattle.rf_names.specs.Offsets.{least_of, offset_if};
-ghost use Rattle.rf_name_rules.specs.RuleOffsets.{can_be_extended, has_no_new, is_no_object, is_unknown, reserved_names, unknown_arg, unknown_assertion, unknown_bound, unknown_class, unknown_literal, unknown_member, unknown_object, unknown_offsets, unknown_opposite, unknown_param_class, unknown_reference, unknown_super, unknown_symbol};
+ghost use Rattle.rf_name_rules.specs.NameOffsets.{can_be_extended, has_no_new, is_no_object, is_unknown, reserved_names, unknown_arg, unknown_assertion, unknown_bound, unknown_class, unknown_literal, unknown_member, unknown_object, unknown_offsets, unknown_opposite, unknown_param_class, unknown_reference, unknown_super, unknown_symbol};
 
 use rf_names::{
     AssertDeclaration, ClassDeclaration, Names, OffsetRule, PredicateDeclaration,

@@ -25,9 +25,10 @@ use Rattle.rf_names.specs.Declarations.{AssertDecl, Declared, asserted_atom, ass
 use Rattle.rf_resolve.specs.Passes.{Passes}
 use Rattle.rf_names.specs.LookUp.{assertion_symbols, can_be_closed, class_decl_at, class_named, has_new, literal_symbols, no_class_decl, no_predicate_decl, own_symbols, parameters_of, sense_of, symbols_named, symbols_or_members, the_number, the_symbol}
 use Rattle.rf_names.specs.Texts.{reads}
-use Rattle.rf_name_rules.specs.RuleOffsets.{ambiguous_symbol, assertion_arity, has_no_new, is_ambiguous, last_offset, literal_arity, unknown_arg, unknown_assertion, unknown_class, unknown_member, unknown_object, unknown_symbol}
+use Rattle.rf_name_rules.specs.NameOffsets.{ambiguous_symbol, has_no_new, is_ambiguous, last_offset, unknown_arg, unknown_assertion, unknown_class, unknown_member, unknown_object, unknown_symbol}
+use Rattle.rf_structure_rules.specs.StructureOffsets.{assertion_arity, literal_arity}
 use Rattle.rf_names.specs.Offsets.{offset_if, offsets_in_literals}
-use Rattle.rf_resolve.specs.Resolved.{object_or_new, resolved_arg, resolved_assertion, resolved_class, resolved_predicate, resolved_reference}
+use Rattle.rf_build.specs.Resolved.{object_or_new, resolved_arg, resolved_assertion, resolved_class, resolved_predicate, resolved_reference}
 use Rattle.rf_resolve.proofs.ClassesFit.{class_count}
 use Rattle.rf_resolve.proofs.ClearOffsets.{few-from_first_past, nil-each, nil-parts, nil-right, offset_if-nil}
 use Rattle.rf_resolve.proofs.NumberFacts.{class_below, some_number}

@@ -19,12 +19,12 @@ use Rattle.rf_syntax.specs.declared.statement.Statement.TheVariants.{Assert, Ato
 use Rattle.rf_names.specs.Declarations.{Declared, atoms_in, classes_in, declared_in, items_in, items_of, items_or_none, listed_or_none, mentions_in, names_in}
 use Rattle.rf_names.specs.LookUp.{enum_of, has_literal, item_named, no_class_decl}
 use Rattle.rf_names.specs.Texts.{is_text_of, reads}
-use Rattle.rf_name_rules.specs.RuleOffsets.{reserved_names}
+use Rattle.rf_name_rules.specs.NameOffsets.{reserved_names}
 use Rattle.rf_resolve.specs.Passes.{Passes}
-use Rattle.rf_resolve.specs.Resolved.{kind_by_atom, kind_by_enum, kind_of_object}
-use Rattle.rf_resolve.proofs.EntryLemmas.{counted, counted_none, counted_one}
+use Rattle.rf_build.specs.Resolved.{kind_by_atom, kind_by_enum, kind_of_object}
+use Rattle.rf_build.proofs.EntryLemmas.{counted, counted_none, counted_one}
 use Rattle.rf_resolve.proofs.FreshNames.{AreFresh, AreFresh-from_repeated}
-use Rattle.rf_resolve.proofs.KnownVariables.{any-some}
+use Rattle.rf_build.proofs.KnownVariables.{any-some}
 use Rattle.rf_resolve.proofs.RuleParts.{once}
 
 -- some item of joined lists passes

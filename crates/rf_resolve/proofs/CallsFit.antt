@@ -22,7 +22,7 @@ use Rattle.rf_names.specs.Bodies.{called_by, calls_directly, is_called_from, lea
 use Rattle.rf_names.specs.Declarations.{Declared, param_names, PredicateDecl}
 use Rattle.rf_names.specs.LookUp.{is_number, literal_symbols, no_predicate_decl, predicate_decl_at, sense_of, the_symbol}
 use Rattle.rf_clause_rules.specs.ClauseOffsets.{leads_back_to, recursive_literal, recursive_offsets}
-use Rattle.rf_resolve.specs.Resolved.{all_literals, class_literal, class_literals, resolved_clause, resolved_literal, resolved_literals, resolved_predicate}
+use Rattle.rf_build.specs.Resolved.{all_literals, class_literal, class_literals, resolved_clause, resolved_literal, resolved_literals, resolved_predicate}
 use Rattle.rf_names.specs.declared.sense.Sense.{Sense}
 use Rattle.rf_names.specs.declared.sense.Sense.TheVariants.{Nothing, One, Several}
 use Rattle.rf_resolve.proofs.ClearOffsets.{offset_if-nil, offsets_in_literals-each}

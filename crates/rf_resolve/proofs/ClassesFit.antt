@@ -20,10 +20,11 @@ use Rattle.rf_limits.specs.declared.kind.LimitKind.TheVariants.{Classes}
 use Rattle.rf_names.specs.Declarations.{ClassDecl, Declared, classes_in, declared_in, items_or_none, listed_or_none, names_in}
 use Rattle.rf_resolve.specs.Passes.{Passes}
 use Rattle.rf_names.specs.LookUp.{class_decl_at, class_named, extends_directly, extends_somehow, is_number, no_class_decl, the_number}
-use Rattle.rf_name_rules.specs.RuleOffsets.{cycles_from, reserved_names}
+use Rattle.rf_name_rules.specs.NameOffsets.{reserved_names}
+use Rattle.rf_structure_rules.specs.StructureOffsets.{cycles_from}
 use Rattle.rf_names.specs.Offsets.{offset_if}
 use Rattle.rf_resolve.specs.Readable.{IsReadableDeclared}
-use Rattle.rf_resolve.specs.Resolved.{resolved_class}
+use Rattle.rf_build.specs.Resolved.{resolved_class}
 use Rattle.rf_resolve.proofs.ClearOffsets.{nil-parts, few-from_first_past, offset_if-nil}
 use Rattle.rf_resolve.proofs.FreshNames.{AreFresh, AreFresh-apart, AreFresh-behind, AreFresh-from_repeated}
 use Rattle.rf_resolve.proofs.NumberFacts.{class_below, some_number}

@@ -18,10 +18,11 @@ use Rattle.rf_syntax.specs.declared.predicate.BodyLiteral.{BodyLiteral}
 use Rattle.rf_syntax.specs.declared.predicate.Param.{Param}
 use Rattle.rf_names.specs.Bodies.{clause_names, clause_variables}
 use Rattle.rf_names.specs.Declarations.{Declared, param_names}
-use Rattle.rf_name_rules.specs.RuleOffsets.{unknown_param_class}
-use Rattle.rf_resolve.specs.Resolved.{all_literals, class_literals, entry_of, is_variable, mentions, resolved_clause, resolved_literals}
+use Rattle.rf_name_rules.specs.NameOffsets.{unknown_param_class}
+use Rattle.rf_build.specs.Resolved.{all_literals, class_literals, entry_of, is_variable, mentions, resolved_clause, resolved_literals}
 use Rattle.rf_resolve.proofs.CallsFit.{predicates_made}
-use Rattle.rf_resolve.proofs.LiteralsFit.{IsSound, all_literals-within, fits_within, length-class_literals, length-resolved_literals, term_within}
+use Rattle.rf_build.proofs.LiteralCounts.{length-class_literals, length-resolved_literals}
+use Rattle.rf_resolve.proofs.LiteralsFit.{IsSound, all_literals-within, fits_within, term_within}
 use Rattle.rf_resolve.proofs.NegationLemmas.{is_negation, negation_around-fits}
 use Rattle.rf_resolve.proofs.ObjectsThere.{AreAtomsThere}
 use Rattle.rf_names.proofs.VariableLemmas.{with_variables-longer}

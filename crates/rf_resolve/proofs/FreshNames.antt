@@ -8,7 +8,7 @@ use Rattle.rf_syntax.specs.declared.name.Name.{Name}
 use Rattle.rf_names.specs.LookUp.{first_of_each}
 use Rattle.rf_names.specs.Texts.{is_text_of}
 use Rattle.rf_names.specs.Offsets.{offset_if}
-use Rattle.rf_name_rules.specs.RuleOffsets.{repeated}
+use Rattle.rf_name_rules.specs.NameOffsets.{repeated}
 use Rattle.rf_resolve.proofs.ClearOffsets.{nil-parts, offset_if-nil}
 use Rattle.rf_resolve.proofs.PairFacts.{AllPairs-cons, AllPairs-nil}
 

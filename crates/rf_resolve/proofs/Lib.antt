@@ -1,14 +1,11 @@
 pub mod AssertionsFit
 pub mod AtomFacts
-pub mod BodyLemmas
 pub mod CallsFit
 pub mod ClassesFit
 pub mod ClauseFit
 pub mod ClearOffsets
-pub mod EntryLemmas
 pub mod FirstFault
 pub mod FreshNames
-pub mod KnownVariables
 pub mod LiteralsFit
 pub mod Made
 pub mod NegationLemmas
@@ -26,4 +23,3 @@ pub mod ScopesFit
 pub mod SenseLemmas
 pub mod SmallCounts
 pub mod SmallLemmas
-pub mod TermLemmas

@@ -4,7 +4,7 @@ use Rattle.std.specs.Prelude.{◌==◌, nat_lt}
 use Rattle.std.specs.List.{list_all}
 use Rattle.std.specs.Option.{is_none}
 use Rattle.std.proofs.lemmas.Bool.{and_from, and_parts, cases_Bool, eq-eqb, eqb-true, lt-ltb, or_cases, or_left, or_right}
-use Rattle.std.proofs.lemmas.List.{length-append, length-map}
+use Rattle.std.proofs.lemmas.List.{length-map}
 use Rattle.std.proofs.lemmas.List.Elements.{All-head, All-tail}
 use Rattle.std.proofs.lemmas.List.Folds.{list_all-append}
 use Rattle.rf_problem.specs.Parts.{arity_of}
@@ -25,14 +25,15 @@ use Rattle.rf_names.specs.Bodies.{clause_names, literal_names, term_of, terms_of
 use Rattle.rf_names.specs.Declarations.{Declared, is_among, is_atom_argument, param_names}
 use Rattle.rf_names.specs.LookUp.{can_be_closed, class_named, literal_symbols, parameters_of, sense_of, the_number, the_symbol}
 use Rattle.rf_names.specs.Texts.{is_blank, reads}
-use Rattle.rf_name_rules.specs.RuleOffsets.{ambiguous_literal, literal_arity, unknown_literal, unknown_param_class}
-use Rattle.rf_resolve.specs.Arguments.{with_arguments}
-use Rattle.rf_resolve.specs.Resolved.{class_literal, class_literals, resolved_literal, resolved_literals}
+use Rattle.rf_name_rules.specs.NameOffsets.{ambiguous_literal, unknown_literal, unknown_param_class}
+use Rattle.rf_structure_rules.specs.StructureOffsets.{literal_arity}
+use Rattle.rf_build.specs.Arguments.{with_arguments}
+use Rattle.rf_build.specs.Resolved.{class_literal, class_literals, resolved_literal, resolved_literals}
 use Rattle.rf_resolve.proofs.CallsFit.{predicate_at-made, predicates_made}
 use Rattle.rf_resolve.proofs.ClearOffsets.{offset_if-nil}
 use Rattle.rf_resolve.proofs.ObjectsThere.{AreAtomsThere, is_atom_object}
 use Rattle.rf_resolve.proofs.SenseLemmas.{IsCallOf, IsCallOf-from_nil, is_there}
-use Rattle.rf_resolve.proofs.TermLemmas.{length-terms_of, one_is_few, two_arguments, with_arguments-longer, with_arguments-step}
+use Rattle.rf_build.proofs.TermLemmas.{length-terms_of, one_is_few, two_arguments, with_arguments-longer, with_arguments-step}
 use Rattle.rf_names.proofs.VariableLemmas.{position-some, variable_number-below, with_variables-append, with_variables-longer}
 
 module _ (d : Declared) (objects : List ObjectDecl) where
@@ -80,25 +81,6 @@ module _ (d : Declared) where
     | inl none ↦ or_left (not closure) (has_steps (predicates_made d) s) none
     | inr closed ↦ or_right (not closure) (has_steps (predicates_made d) s) (steps-made s there closed)
   ]
-
-  -- there are as many literals as are written, and at most one for each parameter
-  pub length-resolved_literals : (params : List Param) (known : List Name) (ls : List BodyLiteral) →
-      length (resolved_literals d params known ls) ≡ length ls
-  length-resolved_literals params known [] = refl
-  length-resolved_literals params known (l ∷ ls) =
-      ap suc (length-resolved_literals params (with_variables known (literal_names d params l)) ls)
-
-  length-class_literal : (n : ℕ) (o : Option Name) → length (class_literal d n o) ≤ 1
-  length-class_literal n None = omega arith
-  length-class_literal n (Some class) = omega arith
-
-  pub length-class_literals : (n : ℕ) (ps : List Param) → length (class_literals d n ps) ≤ length ps
-  length-class_literals n [] = omega arith
-  length-class_literals n (p ∷ ps) =
-      let both = length-append (class_literal d n p.class) (class_literals d (suc n) ps) in
-      let one = length-class_literal n p.class in
-      let rest = length-class_literals (suc n) ps in
-      omega arith
 
 module _ (d : Declared) (objects : List ObjectDecl) (atoms : AreAtomsThere d objects) (params : List Param) where
   abbrev within : ℕ → Term → Bool

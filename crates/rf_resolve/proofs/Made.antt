@@ -1,17 +1,15 @@
 -- What a text that breaks no rule gives to those who make its problem.
-use Rattle.std.proofs.Common.{◌≡◌, ◌∙◌, ◌≤◌, ◌<◌, ◌^◌, ◌++◌, All, List, map, length, Option, Result, Ok, Err, IfNone, IfOk, IfErr, Some, None, refl, sym, ap, subst, inl, inr, arith}
+use Rattle.std.proofs.Common.{◌≡◌, ◌∙◌, ◌≤◌, ◌<◌, ◌^◌, All, map, length, Option, Result, Ok, Err, IfNone, IfOk, IfErr, Some, None, refl, sym, ap, subst, inl, inr, arith}
 use Rattle.std.proofs.lemmas.List.Elements.{All-weaker}
 use Rattle.rf_bounds.specs.declared.TheConstants.{MOST_CLASSES}
-use Rattle.rf_problem.specs.Valid.{new_numbers, new_object}
-use Rattle.rf_problem.specs.declared.class.Class.{Class}
 use Rattle.rf_problem.specs.declared.problem.Problem.{Problem}
 use Rattle.rf_problem.proofs.ProblemLemmas.{same_problem}
 use Rattle.rf_syntax.specs.declared.statement.Ast.{Ast}
 use Rattle.rf_names.specs.Declarations.{Declared, declared_in, references_of}
 use Rattle.rf_resolve.specs.Fault.{NameFault, Resolves, fault_of}
-use Rattle.rf_names.specs.LookUp.{named_objects}
 use Rattle.rf_resolve.specs.Readable.{IsReadableDeclared, IsReadableTree}
-use Rattle.rf_resolve.specs.Resolved.{IsResolved, resolved_class, resolved_object, resolved_reference}
+use Rattle.rf_build.specs.Resolved.{IsResolved, resolved_class, resolved_objects, resolved_reference}
+use Rattle.rf_build.specs.Small.{IsSmall}
 use Rattle.rf_limits.specs.declared.kind.LimitKind.TheVariants.{Classes}
 use Rattle.rf_resolve.specs.declared.error.NameError.{NameError}
 use Rattle.rf_failure.specs.Answers.{Answers, IfFault}
@@ -23,21 +21,14 @@ use Rattle.rf_resolve.proofs.PairFacts.{All-unmap}
 use Rattle.rf_resolve.proofs.Passing.{passes}
 use Rattle.rf_resolve.proofs.ReadableParts.{readable_declared}
 use Rattle.rf_resolve.proofs.ReferencesFit.{references_fit}
+use Rattle.rf_resolve.proofs.SmallLemmas.{small_predicates}
 
 -- there are few classes
 classes_few : (d : Declared) → fault_of d ≡ None → length d.classes ≤ MOST_CLASSES
 classes_few d sound = few-from_first_past (λ c. c.name) MOST_CLASSES d.classes ((passes d sound).limits Classes)
 
-pub classes_made_few :
-    (d : Declared) → fault_of d ≡ None → (classes : List Class) → classes ≡ map (resolved_class d) d.classes → length classes ≤ MOST_CLASSES
-classes_made_few d sound classes made =
-    let few = classes_few d sound in
-    let many = class_count d in
-    let count : length classes ≡ length (map (resolved_class d) d.classes) = ap length made in
-    omega arith
-
 -- so the number of the class of each reference is small
-pub sources_small :
+sources_small :
     (ast : Ast) (d : Declared) → d ≡ declared_in ast → IsReadableTree ast → fault_of d ≡ None →
     All (λ r. r.source < 2 ^ 32) d.references
 sources_small ast d is readable sound =
@@ -49,6 +40,14 @@ sources_small ast d is readable sound =
     (λ r below. omega arith) d.references
     (All-unmap (λ r. r.source < length (map (resolved_class d) d.classes)) (resolved_reference d) d.references fit.sources)
 
+-- what is declared can be numbered
+pub small : (ast : Ast) (d : Declared) → d ≡ declared_in ast → IsReadableTree ast → fault_of d ≡ None → IsSmall d
+small ast d is readable sound = record {
+  classes = classes_few d sound;
+  sources = sources_small ast d is readable sound;
+  predicates = small_predicates d (passes d sound).limits;
+}
+
 -- lists that are the parts of a problem aren't refused
 pub refused_never : (made : Option Problem) (Fit : Type 0) → made ≡ None → IfNone made (Fit → ⊥) → Fit → ⊥
 refused_never None Fit none refused fit = refused fit
@@ -59,7 +58,7 @@ pub one_problem : (d : Declared) (p q : Problem) → IsResolved d p → IsResolv
 one_problem d p q a b =
     let classes : p.classes ≡ q.classes = a.classes ∙ sym b.classes in
     same_problem p q classes (a.references ∙ sym b.references) (a.predicates ∙ sym b.predicates)
-    (a.objects ∙ ap (λ cs. map (resolved_object d) (named_objects d) ++ map new_object (new_numbers 0 cs)) classes ∙ sym b.objects)
+    (a.objects ∙ ap (resolved_objects d) classes ∙ sym b.objects)
     (a.assertions ∙ sym b.assertions) (a.scopes ∙ sym b.scopes)
 
 -- running out of memory answers for any tree

@@ -9,7 +9,7 @@ use Rattle.rf_problem.specs.Valid.{ranges_over}
 use Rattle.rf_problem.specs.declared.predicate.Literal.{Literal}
 use Rattle.rf_problem.specs.declared.predicate.Literal.TheVariants.{Call, Same, Differ}
 use Rattle.rf_names.specs.LookUp.{numbers_where}
-use Rattle.rf_resolve.specs.Resolved.{is_variable, mentions, negates, negation_around, only_one}
+use Rattle.rf_build.specs.Resolved.{is_variable, mentions, negates, negation_around, only_one}
 use Rattle.rf_resolve.proofs.ClearOffsets.{cons_not_nil}
 
 -- each number is that of an item

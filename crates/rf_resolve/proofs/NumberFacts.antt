@@ -7,7 +7,7 @@ use Rattle.std.proofs.lemmas.List.Quantifiers.{position-Some}
 use Rattle.rf_names.specs.LookUp.{class_named, extends_somehow, inherited_members, members_of_some, numbers_where, own_members, own_or_inherited, the_number}
 use Rattle.rf_names.specs.Texts.{reads}
 use Rattle.rf_names.specs.Declarations.{Declared}
-use Rattle.rf_name_rules.specs.RuleOffsets.{is_same_number}
+use Rattle.rf_structure_rules.specs.StructureOffsets.{is_same_number}
 
 -- a number that isn't missing
 pub some_number : (o : Option ℕ) → is_none o ≡ false → o ≡ Some (the_number o)

@@ -21,7 +21,7 @@ use Rattle.rf_resolve.specs.Passes.{Passes}
 use Rattle.rf_names.specs.LookUp.{enum_of, first_of_each, item_named, named_objects}
 use Rattle.rf_names.specs.Texts.{is_text_of, reads}
 use Rattle.rf_resolve.specs.Readable.{IsReadableDeclared, IsSmallRange}
-use Rattle.rf_resolve.specs.Resolved.{count_of_item, kind_by_atom, kind_by_enum, kind_of_object, resolved_class, resolved_object}
+use Rattle.rf_build.specs.Resolved.{count_of_item, kind_by_atom, kind_by_enum, kind_of_object, resolved_class, resolved_object}
 use Rattle.rf_resolve.proofs.AtomFacts.{atom_alone, atom_from_kind, enum_there}
 use Rattle.rf_resolve.proofs.ClassesFit.{class_at_resolved, class_count}
 use Rattle.rf_resolve.proofs.ClearOffsets.{few-from_first_past}

@@ -1,5 +1,5 @@
 -- The objects that names and classes stand for are there.
-use Rattle.std.proofs.Common.{◌≡◌, ◌∙◌, ℕ, zero, suc, ◌+◌, ◌<◌, Bool, true, false, ◌&&◌, List, [], ◌∷◌, ◌++◌, map, length, take, get_or, count_by, All, Some, refl, sym, ap, subst, inl, inr, arith}
+use Rattle.std.proofs.Common.{◌≡◌, ◌∙◌, ℕ, zero, suc, ◌+◌, ◌<◌, Bool, true, false, ◌&&◌, List, [], ◌∷◌, map, length, take, get_or, count_by, All, Some, refl, sym, ap, subst, inl, inr, arith}
 use Rattle.std.specs.Prelude.{nat_lt, position}
 use Rattle.std.specs.List.{list_any, position_or_len}
 use Rattle.std.specs.Str.{bytes_eq}
@@ -17,13 +17,13 @@ use Rattle.rf_names.specs.Declarations.{ClassDecl, Declared, declared_in}
 use Rattle.rf_names.specs.LookUp.{first_of_each, has_new, named_objects, no_name, object_named, the_number}
 use Rattle.rf_names.specs.Texts.{is_text_of, reads}
 use Rattle.rf_names.proofs.VariableLemmas.{position-there, position_or_len-within}
-use Rattle.rf_resolve.specs.Resolved.{kind_of_object, resolved_class, resolved_object}
+use Rattle.rf_build.specs.Resolved.{kind_of_object, resolved_class, resolved_object, resolved_objects}
 use Rattle.rf_resolve.proofs.AtomFacts.{atom_mentioned, kind_of_atom}
-use Rattle.rf_resolve.proofs.EntryLemmas.{counted, counted_none, counted_one}
+use Rattle.rf_build.proofs.EntryLemmas.{counted, counted_none, counted_one}
 
 -- the objects of the problem
 abbrev pub objects_made : Declared → List ObjectDecl
-objects_made d = map (resolved_object d) (named_objects d) ++ map new_object (new_numbers 0 (map (resolved_class d) d.classes))
+objects_made d = resolved_objects d (map (resolved_class d) d.classes)
 
 -- an object is there and may be named in bodies
 abbrev pub is_atom_object : List ObjectDecl → ℕ → Bool

@@ -7,7 +7,8 @@ use Rattle.rf_limits.specs.Limits.{Excess, earlier, earliest, excess_at, limit_k
 use Rattle.rf_resolve.specs.Passes.{Passes}
 use Rattle.rf_resolve.specs.Fault.{fault_of, first_of, limit_error}
 use Rattle.rf_names.specs.Offsets.{least_of, lesser}
-use Rattle.rf_name_rules.specs.RuleOffsets.{ambiguous_offsets, arity_offsets, bad_container_offsets, bad_opposite_offsets, bad_range_offsets, cycle_offsets, equals_two_offsets, twice_offsets, unknown_offsets}
+use Rattle.rf_name_rules.specs.NameOffsets.{ambiguous_offsets, twice_offsets, unknown_offsets}
+use Rattle.rf_structure_rules.specs.StructureOffsets.{arity_offsets, bad_container_offsets, bad_opposite_offsets, bad_range_offsets, cycle_offsets, equals_two_offsets}
 use Rattle.rf_clause_rules.specs.ClauseOffsets.{loose_offsets, recursive_offsets}
 use Rattle.rf_limits.specs.declared.kind.LimitKind.{LimitKind}
 use Rattle.rf_limits.specs.declared.kind.LimitKind.TheVariants.{Classes, References, Predicates, Scopes, Parameters, Clauses, Literals, Variables, Objects, Assertions}

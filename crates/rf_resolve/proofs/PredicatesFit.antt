@@ -16,10 +16,11 @@ use Rattle.rf_names.specs.Bodies.{clause_variables, first_name}
 use Rattle.rf_names.specs.Declarations.{Declared, PredicateDecl, declared_in, items_of, predicates_in}
 use Rattle.rf_resolve.specs.Passes.{Passes}
 use Rattle.rf_limits.specs.Limits.{clause_name, first_past}
-use Rattle.rf_name_rules.specs.RuleOffsets.{ambiguous_literal, literal_arity, unknown_assertion, unknown_bound, unknown_literal, unknown_offsets, unknown_param_class, unknown_reference, unknown_super}
+use Rattle.rf_name_rules.specs.NameOffsets.{ambiguous_literal, unknown_assertion, unknown_bound, unknown_literal, unknown_offsets, unknown_param_class, unknown_reference, unknown_super}
+use Rattle.rf_structure_rules.specs.StructureOffsets.{literal_arity}
 use Rattle.rf_names.specs.Offsets.{offsets_in_literals}
 use Rattle.rf_resolve.specs.Readable.{IsReadableDeclared}
-use Rattle.rf_resolve.specs.Resolved.{resolved_class, resolved_clause, resolved_predicate, resolved_reference}
+use Rattle.rf_build.specs.Resolved.{resolved_class, resolved_clause, resolved_predicate, resolved_reference}
 use Rattle.rf_limits.specs.declared.kind.LimitKind.TheVariants.{Predicates, Parameters, Clauses, Literals, Variables}
 use Rattle.rf_resolve.proofs.CallsFit.{calls-no_cycle, predicates_made}
 use Rattle.rf_resolve.proofs.ClauseFit.{FitsClause-from_sound, IsSoundClause}

@@ -1,5 +1,5 @@
 -- What trees of texts declare has names and numbers of texts.
-use Rattle.std.proofs.Common.{◌≡◌, ℕ, suc, ◌≤◌, Bool, List, [], ◌∷◌, ◌++◌, codes, filter, map, All, Option, Some, None, subst, inl, inr, arith}
+use Rattle.std.proofs.Common.{◌≡◌, ℕ, suc, ◌≤◌, List, [], ◌∷◌, ◌++◌, codes, map, All, Option, Some, None, subst, inl, inr, arith}
 use Rattle.std.specs.Prelude.{option_to_list}
 use Rattle.std.specs.List.{flat_map}
 use Rattle.std.specs.Option.{ForSome}
@@ -43,7 +43,7 @@ use Rattle.rf_text.specs.Written.{CanBeQuoted}
 use Rattle.rf_names.specs.Texts.{reads}
 use Rattle.rf_names.specs.Declarations.{ClassDecl, PredicateDecl, ReferenceDecl, argument_names, asserted_atom, atoms_in, atoms_in_clause, bounds_in, classes_in, declared_in, is_atom_argument, items_in, items_of, listed_or_none, mentions_in, object_in, object_name, predicates_in, references_of}
 use Rattle.rf_resolve.specs.Readable.{IsReadable, IsReadableDeclared, IsReadableTree, IsSmallMult, IsSmallRange}
-use Rattle.rf_resolve.specs.Resolved.{upper_end}
+use Rattle.rf_build.specs.Resolved.{upper_end}
 use Rattle.rf_resolve.proofs.PairFacts.{All-back, All-flat_map, All-flatten, All-prefix, All-unmap}
 
 -- the token of a piece is one of texts

@@ -15,9 +15,10 @@ use Rattle.rf_limits.specs.declared.kind.LimitKind.TheVariants.{References}
 use Rattle.rf_names.specs.Declarations.{ClassDecl, Declared, ReferenceDecl, references_of}
 use Rattle.rf_resolve.specs.Passes.{Passes}
 use Rattle.rf_names.specs.LookUp.{class_named, opposite_of, opposites_named, the_first, the_number}
-use Rattle.rf_name_rules.specs.RuleOffsets.{bad_opposite, bad_opposites_from, feature_names, is_same_number, reserved_members, leads_back, no_reference_decl, reference_decl_at, repeated, unknown_class, unknown_opposite, unknown_reference}
+use Rattle.rf_name_rules.specs.NameOffsets.{feature_names, repeated, reserved_members, unknown_class, unknown_opposite, unknown_reference}
+use Rattle.rf_structure_rules.specs.StructureOffsets.{bad_opposite, bad_opposites_from, is_same_number, leads_back, no_reference_decl, reference_decl_at}
 use Rattle.rf_resolve.specs.Readable.{IsReadableDeclared}
-use Rattle.rf_resolve.specs.Resolved.{resolved_class, resolved_reference}
+use Rattle.rf_build.specs.Resolved.{resolved_class, resolved_reference}
 use Rattle.rf_resolve.proofs.ClassesFit.{class_count}
 use Rattle.rf_resolve.proofs.ClearOffsets.{nil-parts, few-from_first_past, nil-each, offset_if-nil}
 use Rattle.rf_resolve.proofs.FreshNames.{AreFresh, AreFresh-apart, AreFresh-from_repeated}

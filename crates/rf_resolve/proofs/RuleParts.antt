@@ -5,7 +5,7 @@ use Rattle.std.specs.List.{flat_map}
 use Rattle.rf_syntax.specs.declared.name.Name.{Name}
 use Rattle.rf_names.specs.Declarations.{Declared}
 use Rattle.rf_names.specs.LookUp.{assertion_symbols, class_decl_at, class_named, sense_of, the_number}
-use Rattle.rf_name_rules.specs.RuleOffsets.{ambiguous_literal, ambiguous_opposite, ambiguous_offsets, ambiguous_symbol, can_be_extended, feature_names, reserved_members, reserved_names, params_apart, repeated, twice_offsets, unknown_assertion, unknown_bound, unknown_class, unknown_literal, unknown_param_class, unknown_offsets, unknown_reference, unknown_super}
+use Rattle.rf_name_rules.specs.NameOffsets.{ambiguous_literal, ambiguous_offsets, ambiguous_opposite, ambiguous_symbol, can_be_extended, feature_names, params_apart, repeated, reserved_members, reserved_names, twice_offsets, unknown_assertion, unknown_bound, unknown_class, unknown_literal, unknown_offsets, unknown_param_class, unknown_reference, unknown_super}
 use Rattle.rf_names.specs.Offsets.{offsets_in_literals}
 use Rattle.rf_resolve.proofs.ClearOffsets.{nil-parts, nil-each, offset_if-nil}
 

@@ -9,7 +9,7 @@ use Rattle.rf_limits.specs.declared.kind.LimitKind.TheVariants.{Scopes}
 use Rattle.rf_names.specs.Declarations.{Declared}
 use Rattle.rf_resolve.specs.Passes.{Passes}
 use Rattle.rf_resolve.specs.Readable.{IsReadableDeclared}
-use Rattle.rf_resolve.specs.Resolved.{resolved_class, resolved_scope}
+use Rattle.rf_build.specs.Resolved.{resolved_class, resolved_scope}
 use Rattle.rf_resolve.proofs.ClassesFit.{class_count}
 use Rattle.rf_resolve.proofs.ClearOffsets.{few-from_first_past}
 use Rattle.rf_resolve.proofs.NumberFacts.{position_below}

@@ -14,7 +14,8 @@ use Rattle.rf_syntax.specs.declared.predicate.BodyLiteral.TheVariants.{Call}
 use Rattle.rf_names.specs.Declarations.{Declared}
 use Rattle.rf_names.specs.LookUp.{class_named, extends_somehow, inherited_members, literal_symbols, members_of_some, no_class_decl, no_predicate_decl, own_members, own_or_inherited, predicate_named, references_named, sense_of, symbol_of_some, symbols_named, symbols_or_members}
 use Rattle.rf_names.specs.Texts.{reads}
-use Rattle.rf_name_rules.specs.RuleOffsets.{ambiguous_literal, bad_arity, fits_call, is_ambiguous, is_unknown, last_offset, literal_arity, unknown_class, unknown_literal, unknown_symbol}
+use Rattle.rf_name_rules.specs.NameOffsets.{ambiguous_literal, is_ambiguous, is_unknown, last_offset, unknown_class, unknown_literal, unknown_symbol}
+use Rattle.rf_structure_rules.specs.StructureOffsets.{bad_arity, fits_call, literal_arity}
 use Rattle.rf_names.specs.Offsets.{offset_if}
 use Rattle.rf_names.specs.declared.sense.Sense.{Sense}
 use Rattle.rf_names.specs.declared.sense.Sense.TheVariants.{Nothing, One, Several}

@@ -8,7 +8,7 @@ use Rattle.rf_syntax.specs.declared.class.MultPlace.TheVariants.{Absent as NoMul
 use Rattle.rf_syntax.specs.declared.range.Range.{Range}
 use Rattle.rf_syntax.specs.declared.statement.Item.{Item}
 use Rattle.rf_resolve.specs.Readable.{IsSmallMult, IsSmallRange}
-use Rattle.rf_resolve.specs.Resolved.{count_of_item, count_of_mult, count_of_range, count_or_any}
+use Rattle.rf_build.specs.Resolved.{count_of_item, count_of_mult, count_of_range, count_or_any}
 
 pub IsSmall-range : (r : Range) → IsSmallRange r → IsSmall (count_of_range r)
 IsSmall-range r small = record { lower = small.lower; upper = small.upper }

@@ -1,18 +1,13 @@
 -- Predicates that pass no limit have few parameters, literals and variables.
-use Rattle.std.proofs.Common.{◌≡◌, ◌+◌, ◌≤◌, List, [], length, get_or, All, arith}
-use Rattle.std.proofs.lemmas.List.{length-append}
+use Rattle.std.proofs.Common.{◌≡◌, [], get_or, All}
 use Rattle.rf_bounds.specs.declared.TheConstants.{MOST_LITERALS, MOST_PARAMETERS, MOST_VARIABLES}
-use Rattle.rf_syntax.specs.declared.predicate.BodyLiteral.{BodyLiteral}
-use Rattle.rf_syntax.specs.declared.predicate.Param.{Param}
 use Rattle.rf_names.specs.Bodies.{clause_variables, first_name}
-use Rattle.rf_names.specs.Declarations.{Declared, param_names, PredicateDecl}
+use Rattle.rf_names.specs.Declarations.{Declared, PredicateDecl}
 use Rattle.rf_limits.specs.Limits.{first_past, limit_offsets}
-use Rattle.rf_resolve.specs.Resolved.{all_literals, class_literals, resolved_literals}
-use Rattle.rf_resolve.specs.Small.{IsSmallClause, IsSmallPredicate}
 use Rattle.rf_limits.specs.declared.kind.LimitKind.{LimitKind}
 use Rattle.rf_limits.specs.declared.kind.LimitKind.TheVariants.{Literals, Parameters, Variables}
+use Rattle.rf_build.specs.Small.{IsSmallPredicate}
 use Rattle.rf_resolve.proofs.ClearOffsets.{few-from_first_past, nil-each, offsets_in_clauses-each}
-use Rattle.rf_resolve.proofs.LiteralsFit.{length-class_literals, length-resolved_literals}
 
 module _ (d : Declared) (limits : (k : LimitKind) → limit_offsets d k ≡ []) where
   few_params : All (λ p. first_past MOST_PARAMETERS (λ param. param.name) p.params ≡ []) d.predicates
@@ -36,16 +31,3 @@ module _ (d : Declared) (limits : (k : LimitKind) → limit_offsets d k ≡ []) 
               (clause_variables d params clause)) d.predicates (limits Variables) k e l j c m);
         };
       }
-
--- the literals of a small clause
-pub few_literals :
-    (d : Declared) (params : List Param) (clause : List BodyLiteral) → IsSmallClause d params clause
-    → length (all_literals d params clause) ≤ MOST_LITERALS + MOST_PARAMETERS
-few_literals d params clause small =
-    let arity : length params ≤ MOST_PARAMETERS = small.arity in
-    let count : length clause ≤ MOST_LITERALS = small.literals in
-    let written = length-resolved_literals d params (param_names params) clause in
-    let typed = length-class_literals d 0 params in
-    let all = length-append (resolved_literals d params (param_names params) clause)
-    (class_literals d 0 params) in
-    omega arith

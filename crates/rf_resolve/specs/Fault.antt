@@ -7,10 +7,11 @@ use Rattle.rf_resolve.specs.declared.error.NameError.{NameError}
 use Rattle.rf_resolve.specs.declared.error.NameError.TheVariants.{Limit, Twice, Unknown, Ambiguous, ClassCycle, BadOpposite, BadContainer, BadRange, Arity, LooseVariable, Recursive, EqualsTwo}
 use Rattle.rf_limits.specs.Limits.{Excess, limit_kinds, earliest}
 use Rattle.rf_names.specs.Declarations.{Declared, declared_in}
-use Rattle.rf_name_rules.specs.RuleOffsets.{ambiguous_offsets, arity_offsets, bad_container_offsets, bad_opposite_offsets, bad_range_offsets, cycle_offsets, equals_two_offsets, twice_offsets, unknown_offsets}
+use Rattle.rf_name_rules.specs.NameOffsets.{ambiguous_offsets, twice_offsets, unknown_offsets}
+use Rattle.rf_structure_rules.specs.StructureOffsets.{arity_offsets, bad_container_offsets, bad_opposite_offsets, bad_range_offsets, cycle_offsets, equals_two_offsets}
 use Rattle.rf_clause_rules.specs.ClauseOffsets.{loose_offsets, recursive_offsets}
 use Rattle.rf_names.specs.Offsets.{least_of}
-use Rattle.rf_resolve.specs.Resolved.{IsResolved}
+use Rattle.rf_build.specs.Resolved.{IsResolved}
 
 abbrev pub limit_error : Excess → NameError
 limit_error e = Limit e.kind e.at

@@ -3,7 +3,8 @@ use Rattle.std.specs.Prelude.{[], ◌≡◌}
 use Rattle.rf_limits.specs.Limits.{limit_offsets}
 use Rattle.rf_limits.specs.declared.kind.LimitKind.{LimitKind}
 use Rattle.rf_names.specs.Declarations.{Declared}
-use Rattle.rf_name_rules.specs.RuleOffsets.{ambiguous_offsets, arity_offsets, bad_container_offsets, bad_opposite_offsets, bad_range_offsets, cycle_offsets, equals_two_offsets, twice_offsets, unknown_offsets}
+use Rattle.rf_name_rules.specs.NameOffsets.{ambiguous_offsets, twice_offsets, unknown_offsets}
+use Rattle.rf_structure_rules.specs.StructureOffsets.{arity_offsets, bad_container_offsets, bad_opposite_offsets, bad_range_offsets, cycle_offsets, equals_two_offsets}
 use Rattle.rf_clause_rules.specs.ClauseOffsets.{loose_offsets, recursive_offsets}
 
 -- no rule is broken anywhere, and no limit passed

@@ -10,7 +10,7 @@ use Rattle.rf_syntax.specs.Statement.{spelling_of}
 use Rattle.rf_syntax.specs.declared.range.Range.{Range}
 use Rattle.rf_syntax.specs.declared.class.MultPlace.{MultPlace}
 use Rattle.rf_syntax.specs.declared.class.MultPlace.TheVariants.{Absent as NoMult, AfterType, AfterName}
-use Rattle.rf_resolve.specs.Resolved.{upper_end}
+use Rattle.rf_build.specs.Resolved.{upper_end}
 use Rattle.rf_names.specs.Declarations.{Declared}
 
 -- a name has at most 255 bytes, and no single quote or line end among them; a number is at most

@@ -5,18 +5,17 @@ ghost use Rattle.std.specs.Option.{option_map};
 ghost use Rattle.rf_limits.specs.Limits.{earliest, limit_kinds};
 ghost use Rattle.rf_resolve.specs.Fault.{fault_of, first_of, limit_error};
 ghost use Rattle.rf_names.specs.Offsets.{least_of};
-ghost use Rattle.rf_name_rules.specs.RuleOffsets.{ambiguous_offsets, arity_offsets, bad_container_offsets, bad_opposite_offsets, bad_range_offsets, cycle_offsets, equals_two_offsets, twice_offsets, unknown_offsets};
+ghost use Rattle.rf_name_rules.specs.NameOffsets.{ambiguous_offsets, twice_offsets, unknown_offsets};
+ghost use Rattle.rf_structure_rules.specs.StructureOffsets.{arity_offsets, bad_container_offsets, bad_opposite_offsets, bad_range_offsets, cycle_offsets, equals_two_offsets};
 ghost use Rattle.rf_clause_rules.specs.ClauseOffsets.{loose_offsets, recursive_offsets};
 ghost use Rattle.rf_resolve.specs.declared.error.NameError.TheVariants.{Ambiguous, Arity, BadContainer, BadOpposite, BadRange, ClassCycle, EqualsTwo, LooseVariable, Recursive, Twice, Unknown};
 
 use crate::NameError;
 use rf_clause_rules::{loose_variable, recursive};
 use rf_limits::limits;
-use rf_name_rules::{
-    ambiguous, arity, bad_container, bad_opposite, bad_range, class_cycle, equals_two, twice,
-    unknown,
-};
+use rf_name_rules::{ambiguous, twice, unknown};
 use rf_names::Names;
+use rf_structure_rules::{arity, bad_container, bad_opposite, bad_range, class_cycle, equals_two};
 use std::alloc::{AllocError, Global};
 
 /// The first rule that is broken, with its least offset. A rule is asked only where those before it

@@ -2,17 +2,12 @@ ghost use Rattle.std.specs.Prelude.{◌≡◌, IfOk, IfErr, None, Some};
 ghost use Rattle.rf_failure.specs.Answers.{Answers, IfFault};
 ghost use Rattle.rf_resolve.specs.Fault.{NameFault, Resolves, fault_of};
 ghost use Rattle.rf_resolve.specs.Readable.{IsReadableTree};
-ghost use Rattle.rf_resolve.specs.Resolved.{IsResolved};
+ghost use Rattle.rf_build.specs.Resolved.{IsResolved};
 ghost use Rattle.rf_resolve.specs.Texts.{IsOfText};
 
 use crate::NameError;
-use crate::building::assertions::resolved_assertions;
-use crate::building::classes::resolved_classes;
-use crate::building::objects::resolved_objects;
-use crate::building::references::resolved_references;
-use crate::building::scopes::resolved_scopes;
 use crate::faults::first_fault;
-use crate::predicates::resolved_predicates;
+use rf_build::build;
 use rf_failure::Failure;
 use rf_names::{Declarations, Names};
 use rf_problem::Problem;
@@ -25,15 +20,7 @@ fn problem_of(alloc: Global, names: &Names) -> Result<Problem, AllocError>
     requires sound { fault_of names.now.declared.now ≡ None }
     ensures { IfOk result (λ p. IsResolved names.now.declared.now p) }
 {
-    let classes = resolved_classes(alloc, names)?;
-    let references = resolved_references(alloc, names)?;
-    let predicates = resolved_predicates(alloc, names)?;
-    let objects = resolved_objects(alloc, names, &classes)?;
-    let assertions = resolved_assertions(alloc, names)?;
-    let scopes = resolved_scopes(alloc, names)?;
-    let made = Problem::new(
-        alloc, classes, references, predicates, objects, assertions, scopes,
-    )?;
+    let made = build(alloc, names)?;
     match made {
         Some(problem) => Ok(problem),
         None => unreachable!(),

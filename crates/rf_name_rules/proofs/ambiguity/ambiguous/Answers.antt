@@ -3,7 +3,7 @@ use Rattle.std.specs.List.{flat_map}
 use Rattle.rf_names.specs.Declarations.{AssertDecl, Declared, PredicateDecl, ReferenceDecl}
 use Rattle.rf_names.specs.Offsets.{least_of, offsets_in_literals}
 use Rattle.rf_names.specs.LookUp.{assertion_symbols, sense_of}
-use Rattle.rf_name_rules.specs.RuleOffsets.{ambiguous_literal, ambiguous_opposite, ambiguous_symbol}
+use Rattle.rf_name_rules.specs.NameOffsets.{ambiguous_literal, ambiguous_opposite, ambiguous_symbol}
 use Rattle.rf_name_rules.proofs.JoinedOffsets.{least_join}
 use Rattle.rf_name_rules.proofs.ambiguity.ambiguous.Goals as goal
 

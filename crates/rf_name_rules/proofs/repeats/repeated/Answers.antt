@@ -4,7 +4,7 @@ use Rattle.std.specs.Str.{bytes_eq}
 use Rattle.rf_syntax.specs.declared.name.Name.{Name}
 use Rattle.rf_names.specs.Offsets.{least_of}
 use Rattle.rf_names.specs.Texts.{is_text_of}
-use Rattle.rf_name_rules.specs.RuleOffsets.{repeated}
+use Rattle.rf_name_rules.specs.NameOffsets.{repeated}
 use Rattle.rf_name_rules.proofs.RepeatedNames.{names_more, one_more_mark, one_more_offset}
 use Rattle.rf_name_rules.proofs.repeats.repeated.Goals as goal
 use Rattle.rf_name_rules.proofs.repeats.repeated.Goals.{then-is_reserved, else-is_reserved}

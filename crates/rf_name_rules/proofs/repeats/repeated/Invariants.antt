@@ -1,6 +1,6 @@
 use Rattle.std.proofs.Common.{◌≡◌, map, take}
 use Rattle.rf_names.specs.Offsets.{least_of}
-use Rattle.rf_name_rules.specs.RuleOffsets.{repeated}
+use Rattle.rf_name_rules.specs.NameOffsets.{repeated}
 use Rattle.rf_name_rules.proofs.RepeatedNames.{Marks}
 use Rattle.rf_name_rules.proofs.repeats.repeated.Given as goal
 

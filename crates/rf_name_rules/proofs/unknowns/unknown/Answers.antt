@@ -3,7 +3,7 @@ use Rattle.std.specs.List.{flat_map}
 use Rattle.rf_names.specs.Declarations.{AssertDecl, ClassDecl, Declared, PredicateDecl, ReferenceDecl}
 use Rattle.rf_syntax.specs.declared.statement.Bound.{Bound}
 use Rattle.rf_names.specs.Offsets.{least_of, offsets_in_literals}
-use Rattle.rf_name_rules.specs.RuleOffsets.{unknown_assertion, unknown_bound, unknown_literal, unknown_param_class, unknown_reference, unknown_super}
+use Rattle.rf_name_rules.specs.NameOffsets.{unknown_assertion, unknown_bound, unknown_literal, unknown_param_class, unknown_reference, unknown_super}
 use Rattle.rf_name_rules.proofs.JoinedOffsets.{least_join}
 use Rattle.rf_name_rules.proofs.unknowns.unknown.Goals as goal
 

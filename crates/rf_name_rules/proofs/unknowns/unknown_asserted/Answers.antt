@@ -1,6 +1,6 @@
 use Rattle.std.proofs.Common.{◌∙◌, ap}
 use Rattle.rf_names.specs.Offsets.{least_of}
-use Rattle.rf_name_rules.specs.RuleOffsets.{unknown_symbol}
+use Rattle.rf_name_rules.specs.NameOffsets.{unknown_symbol}
 use Rattle.rf_name_rules.proofs.unknowns.unknown_asserted.Goals as goal
 
 pub returns : goal.returns

@@ -3,7 +3,7 @@ use Rattle.std.specs.List.{flat_map}
 use Rattle.rf_names.specs.Declarations.{AssertDecl}
 use Rattle.rf_names.specs.Offsets.{least_of}
 use Rattle.rf_names.specs.LookUp.{assertion_symbols, sense_of}
-use Rattle.rf_name_rules.specs.RuleOffsets.{unknown_arg, unknown_assertion, unknown_symbol}
+use Rattle.rf_name_rules.specs.NameOffsets.{unknown_arg, unknown_assertion, unknown_symbol}
 use Rattle.rf_name_rules.proofs.JoinedOffsets.{least_join}
 use Rattle.rf_name_rules.proofs.unknowns.UnknownNamesOffsetRuleAssertDeclaration.least_in.Goals as goal
 

@@ -1,7 +1,0 @@
-use Rattle.std.proofs.Common.{◌≡◌, take}
-use Rattle.rf_names.specs.Offsets.{least_of}
-use Rattle.rf_name_rules.specs.RuleOffsets.{cycles_from}
-use Rattle.rf_name_rules.proofs.cycles.cycles_among.Given as goal
-
-abbrev pub invariant-loop-number : goal.invariant-loop-number
-invariant-loop-number l = l.least ≡ least_of (cycles_from l.names.declared.now 0 (take l.number l.classes))

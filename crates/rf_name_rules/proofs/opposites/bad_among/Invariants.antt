@@ -1,7 +1,0 @@
-use Rattle.std.proofs.Common.{◌≡◌, take}
-use Rattle.rf_names.specs.Offsets.{least_of}
-use Rattle.rf_name_rules.specs.RuleOffsets.{bad_opposites_from}
-use Rattle.rf_name_rules.proofs.opposites.bad_among.Given as goal
-
-abbrev pub invariant-loop-number : goal.invariant-loop-number
-invariant-loop-number l = l.least ≡ least_of (bad_opposites_from l.names.declared.now 0 (take l.number l.references))

@@ -1,7 +1,0 @@
-use Rattle.std.proofs.Common.{◌≡◌, map, take}
-use Rattle.rf_resolve.specs.Resolved.{resolved_arg}
-use Rattle.rf_resolve.proofs.building.assertions.resolved_args.Given as goal
-
-abbrev pub invariant-loop-arg : goal.invariant-loop-arg
-invariant-loop-arg l =
-    l.numbers.items ≡ map (resolved_arg l.names.declared.now) (take l.arg-index l.args)

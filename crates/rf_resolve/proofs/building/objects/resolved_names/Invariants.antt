@@ -1,8 +1,0 @@
-use Rattle.std.proofs.Common.{◌≡◌, map, take}
-use Rattle.rf_resolve.specs.Resolved.{resolved_object}
-use Rattle.rf_resolve.proofs.building.objects.resolved_names.Given as goal
-
-abbrev pub invariant-loop-name : goal.invariant-loop-name
-invariant-loop-name l =
-    l.objects.items ≡ map (resolved_object l.names.declared.now)
-    (map (λ n. n.now) (take l.name-index l.name-items))
