@@ -1,5 +1,5 @@
 -- Lemmas on the first of the best so far and what passes.
-use Rattle.std.proofs.Common.{◌≡◌, Bool, true, false, ℕ, ◌<◌, Option, Some, None, List, [], ◌∷◌, length, ◌⊎◌, refl, sym, ap, ◌∙◌, subst, inl, inr, Less, Equal, Greater, arith, nat_cmp, true≢false}
+use Rattle.std.proofs.Common.{◌≡◌, Bool, true, false, ℕ, ◌<◌, Option, Some, None, List, ◌∷◌, ◌⊎◌, refl, sym, ap, ◌∙◌, subst, inl, inr, Less, Equal, Greater, nat_cmp, true≢false}
 use Rattle.std.specs.Cmp.{IsTotalOrder, nat_cmp_is}
 use Rattle.std.specs.Cmp.Lexicographic.{slice_cmp}
 use Rattle.std.specs.Ordering.{ordering_reverse, ordering_then}
@@ -7,7 +7,6 @@ use Rattle.std.specs.declared.cmp.Ordering.{Ordering}
 use Rattle.rf_finite.specs.Firsts.{IsFirstOf, earlier}
 use Rattle.rf_finite.proofs.Firsts.{IsFirstOf-either}
 use Rattle.rf_finite.proofs.Range.{None-ne_Some}
-use Rattle.std.proofs.lemmas.Cmp.{nat_list_cmp_total}
 use Rattle.rf_evaluate.specs.Hunts.{IsFirstOfBoth}
 
 abbrev some_value : {X : Type 0} → X → Option X → X

@@ -1,21 +1,19 @@
 -- The search for a tuple, begun for a clause, and clause by clause.
-use Rattle.std.proofs.Common.{◌≡◌, ◌≢◌, ℕ, zero, suc, ◌+◌, ◌-◌, ◌<◌, ◌≤◌, max, Bool, true, false, ◌&&◌, Option, Some, None, List, [], ◌∷◌, ◌⊎◌, length, take, get_or, get_or-take, nat_cmp, refl, sym, ap, ap₂, ◌∙◌, subst, inl, inr, arith, true≢false, slice_get, slice_index, slice_index_or, nat_le, nat_lt, lt-ltb, le-leb, eqb-true, ◌==◌}
+use Rattle.std.proofs.Common.{◌≡◌, ℕ, zero, suc, ◌+◌, ◌-◌, ◌<◌, ◌≤◌, max, Bool, true, false, ◌&&◌, Option, Some, None, List, [], ◌∷◌, ◌⊎◌, length, take, get_or, nat_cmp, refl, sym, ap, ap₂, ◌∙◌, subst, inl, inr, arith, true≢false, slice_get, slice_index, slice_index_or, nat_le, nat_lt, lt-ltb, le-leb, eqb-true, ◌==◌}
 use Rattle.std.specs.Cmp.Lexicographic.{slice_cmp}
-use Rattle.std.specs.List.{list_all, list_any}
+use Rattle.std.specs.List.{list_all}
 use Rattle.std.proofs.lemmas.Bool.{and_parts, cases_lt, false_from_ne_true, leb-true}
 use Rattle.std.proofs.lemmas.Cmp.{nat_list_cmp_total}
 use Rattle.std.proofs.lemmas.List.{get_or_past}
 use Rattle.rf_finite.specs.Firsts.{IsFirstOf}
 use Rattle.rf_finite.proofs.Firsts.{IsFirstOf-same}
-use Rattle.rf_values.specs.Truth.{conjunction, may, must, truth_of}
-use Rattle.rf_values.specs.declared.truth.Truth.{Truth}
-use Rattle.rf_values.specs.declared.truth.Truth.TheVariants.{True, False}
+use Rattle.rf_values.specs.Truth.{may, must}
+use Rattle.rf_values.specs.declared.truth.Truth.TheVariants.{True}
 use Rattle.rf_problem.specs.Parts.{predicate_at}
 use Rattle.rf_problem.specs.Reading.{clause_true}
 use Rattle.rf_problem.specs.Valid.{is_free}
 use Rattle.rf_problem.specs.declared.predicate.Clause.{Clause}
 use Rattle.rf_problem.proofs.Depth.{call_rank-below}
-use Rattle.rf_problem.specs.declared.predicate.Predicate.{Predicate}
 use Rattle.rf_evaluate.specs.Evaluating.{IsSoundClause, call_rank, calls_of, clause_value, completed_value}
 use Rattle.rf_evaluate.specs.Hunts.{GoesOn, IsFirstOfBoth, IsFoundAmong, IsFoundAt, IsOfArity, IsPlaced, IsReached, with_tuple}
 use Rattle.rf_evaluate.specs.Known.{Known, side}

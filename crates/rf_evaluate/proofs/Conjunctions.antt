@@ -1,5 +1,5 @@
 -- Where truths of facts together are false.
-use Rattle.std.proofs.Common.{◌≡◌, ◌≢◌, ℕ, zero, suc, ◌+◌, ◌<◌, ◌≤◌, Bool, true, false, ◌&&◌, ◌||◌, Option, Some, None, List, [], ◌∷◌, ◌⊎◌, length, refl, sym, ap, ap₂, ◌∙◌, inl, inr, arith, true≢false, slice_get}
+use Rattle.std.proofs.Common.{◌≡◌, ◌≢◌, ℕ, zero, suc, ◌<◌, Bool, true, false, ◌&&◌, ◌||◌, Some, List, [], ◌∷◌, ◌⊎◌, refl, sym, ap, ap₂, ◌∙◌, inl, inr, arith, true≢false, slice_get}
 use Rattle.std.specs.List.{list_any}
 use Rattle.std.proofs.lemmas.Bool.{cases_order, or_parts}
 use Rattle.rf_values.specs.Truth.{conjunction, disjunction, may, must, truth_of}

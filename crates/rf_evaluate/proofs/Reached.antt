@@ -1,19 +1,15 @@
 -- Which tuples are reached from a stage, and from the stages after it.
-use Rattle.std.proofs.Common.{◌≡◌, ◌≢◌, ℕ, zero, suc, ◌+◌, ◌-◌, ◌<◌, ◌≤◌, Bool, true, false, ◌&&◌, ◌==◌, if◌then◌else◌, Option, Some, None, List, [], ◌∷◌, ◌⊎◌, length, set, take, get_or, get_or-set_same, get_or-set_other, get_or-take, length-take-le, All, nat_cmp, refl, sym, ap, ap₂, ◌∙◌, subst, inl, inr, arith, true≢false, slice_index, slice_index_or, slice_get, Less, ltb, lt-ltb, le-ltb, ltb-true, eqb-true, nat_lt}
-use Rattle.std.specs.List.{list_any}
+use Rattle.std.proofs.Common.{◌≡◌, ◌≢◌, ℕ, ◌<◌, ◌≤◌, Bool, true, false, if◌then◌else◌, Option, Some, None, List, [], ◌∷◌, length, set, take, get_or, get_or-set_same, get_or-set_other, get_or-take, length-take-le, nat_cmp, refl, sym, ap, ap₂, ◌∙◌, subst, inl, inr, arith, true≢false, slice_index, slice_index_or, slice_get, Less, lt-ltb, le-ltb}
 use Rattle.std.specs.Cmp.Lexicographic.{slice_cmp}
-use Rattle.std.proofs.lemmas.Bool.{cases_Bool, cases_lt, cases_order, or_cases}
+use Rattle.std.proofs.lemmas.Bool.{cases_Bool, cases_lt, cases_order}
 use Rattle.std.proofs.lemmas.Grind.{same_number_lists}
-use Rattle.std.proofs.lemmas.List.{get_or_past}
 use Rattle.std.proofs.lemmas.List.Elements.{All-get_or, All-from_get_or}
-use Rattle.rf_finite.specs.Tuples.{IsTuple}
 use Rattle.rf_values.specs.Truth.{conjunction}
 use Rattle.rf_values.specs.declared.truth.Truth.{Truth}
 use Rattle.rf_values.specs.declared.truth.Truth.TheVariants.{False}
 use Rattle.rf_problem.specs.declared.predicate.Literal.{Literal}
-use Rattle.rf_evaluate.specs.Elements.{AreBelow, count, element_at, includes}
+use Rattle.rf_evaluate.specs.Elements.{count, element_at, includes}
 use Rattle.rf_evaluate.specs.declared.elements.Elements.{Elements}
-use Rattle.rf_evaluate.specs.declared.elements.Elements.TheVariants.{Below, Listed}
 use Rattle.rf_evaluate.specs.Evaluating.{AreCandidates, IsRefuted, completed_value, completed_with, literal_value, some_truth, with_element, without_literal}
 use Rattle.rf_evaluate.specs.Hunts.{AreClosed, GoesOn, IsOfArity, IsPast, IsPlaced, IsReached, IsReachedWith, value_with, with_tuple}
 use Rattle.rf_evaluate.specs.Known.{Known}

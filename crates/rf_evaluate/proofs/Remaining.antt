@@ -1,5 +1,5 @@
 -- How many variables are unassigned and how many literals pending.
-use Rattle.std.proofs.Common.{◌≡◌, ℕ, ◌+◌, ◌<◌, Bool, true, false, if◌then◌else◌, List, length, set, get_or, sum_by, refl, ap, arith, slice_index_or}
+use Rattle.std.proofs.Common.{◌≡◌, ℕ, ◌+◌, Bool, true, false, List, set, get_or, sum_by, ap, arith, slice_index_or}
 use Rattle.std.proofs.lemmas.List.Sums.{sum_by-set}
 use Rattle.rf_evaluate.specs.Evaluating.{with_element, without_literal}
 use Rattle.rf_evaluate.specs.declared.stage.Stage.{Stage}

@@ -1,9 +1,8 @@
 -- The steps of the search for a tuple.
-use Rattle.std.proofs.Common.{◌≡◌, ◌≢◌, ℕ, zero, suc, ◌+◌, ◌<◌, ◌≤◌, max, Bool, true, false, Option, Some, None, List, [], ◌∷◌, ◌⊎◌, length, set, get_or-set_same, get_or-set_other, nat_cmp, refl, sym, ap, ◌∙◌, subst, inl, inr, arith, slice_get, slice_index, slice_index_or, Result, Ok, Err, IfOk}
+use Rattle.std.proofs.Common.{◌≡◌, ℕ, zero, suc, ◌+◌, ◌<◌, ◌≤◌, max, Bool, true, false, Option, Some, List, [], ◌∷◌, ◌⊎◌, length, set, get_or-set_same, get_or-set_other, nat_cmp, refl, sym, ap, ◌∙◌, subst, inl, inr, arith, slice_get, slice_index, slice_index_or, Result, Ok, Err, IfOk}
 use Rattle.std.specs.Cmp.Lexicographic.{slice_cmp}
 use Rattle.std.proofs.lemmas.Bool.{cases_lt, cases_order}
 use Rattle.std.proofs.lemmas.Cmp.{nat_list_cmp_total}
-use Rattle.rf_finite.specs.Firsts.{IsFirstOf}
 use Rattle.rf_finite.proofs.Firsts.{IsFirstOf-same}
 use Rattle.rf_values.specs.Truth.{conjunction}
 use Rattle.rf_values.specs.declared.truth.Truth.{Truth}

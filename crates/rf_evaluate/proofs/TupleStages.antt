@@ -1,8 +1,8 @@
 -- Stages with a tuple's elements for the variables that come first.
-use Rattle.std.proofs.Common.{◌≡◌, ℕ, zero, suc, ◌+◌, ◌-◌, ◌<◌, ◌≤◌, Bool, true, false, List, [], ◌∷◌, ◌++◌, length, map, drop, set, get_or, get_or-drop, get_or-set_same, get_or-set_other, drop-set-lt, length-append, length-drop, ext_get_or, refl, sym, ap, ap₂, ◌∙◌, subst, inl, inr, arith, slice_index, slice_index_or}
+use Rattle.std.proofs.Common.{◌≡◌, ℕ, zero, suc, ◌+◌, ◌-◌, ◌<◌, ◌≤◌, Bool, false, List, [], ◌∷◌, ◌++◌, length, map, drop, set, get_or, get_or-drop, drop-set-lt, length-append, length-drop, ext_get_or, refl, sym, ap, ap₂, ◌∙◌, inl, inr, arith, slice_index, slice_index_or}
 use Rattle.std.proofs.lemmas.Bool.{cases_lt}
-use Rattle.std.proofs.lemmas.List.{drop-set-add, get_or-append_right, get_or_append_left, get_or_past, set-append_right}
-use Rattle.rf_evaluate.specs.Evaluating.{with_element, without_literal}
+use Rattle.std.proofs.lemmas.List.{drop-set-add, get_or-append_right, get_or_append_left, set-append_right}
+use Rattle.rf_evaluate.specs.Evaluating.{with_element}
 use Rattle.rf_evaluate.specs.Hunts.{AreClosed, GoesOn, with_tuple}
 use Rattle.rf_evaluate.specs.declared.stage.Stage.{Stage}
 use Rattle.rf_evaluate.proofs.Unassigned.{AgreeOutside}

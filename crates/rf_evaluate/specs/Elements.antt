@@ -1,5 +1,5 @@
 -- Elements that come into question.
-use Rattle.std.specs.Prelude.{ℕ, Bool, nat_lt, ◌==◌, ◌<◌, ◌≤◌, All, List, length, slice_index}
+use Rattle.std.specs.Prelude.{ℕ, Bool, nat_lt, ◌==◌, ◌<◌, ◌≤◌, All, length, slice_index}
 use Rattle.std.specs.List.{list_any}
 use Rattle.rf_evaluate.specs.declared.elements.Elements.{Elements}
 use Rattle.rf_evaluate.specs.declared.elements.Elements.TheVariants.{Below, Listed}

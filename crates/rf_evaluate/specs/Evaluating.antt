@@ -11,7 +11,7 @@ use Rattle.rf_problem.specs.Reading.{Assignment, Calls, Choice, Reading, assign,
 use Rattle.rf_problem.specs.Valid.{calls, fit_literals}
 use Rattle.rf_problem.specs.declared.predicate.Clause.{Clause}
 use Rattle.rf_problem.specs.declared.predicate.Literal.{Literal}
-use Rattle.rf_problem.specs.declared.predicate.Literal.TheVariants.{Call, Same, Differ}
+use Rattle.rf_problem.specs.declared.predicate.Literal.TheVariants.{Call}
 use Rattle.rf_problem.specs.declared.predicate.Predicate.{Predicate}
 use Rattle.rf_problem.specs.declared.predicate.Term.{Term}
 use Rattle.rf_problem.specs.declared.problem.Problem.{Problem}

@@ -1,6 +1,6 @@
 -- Private: no public contract cites this.
 -- The terms of literals.
-use Rattle.std.specs.Prelude.{◌≡◌, ◌<◌, ◌==◌, ◌||◌, max, not, ℕ, Bool, false, List, length, map, slice_index, slice_index_or}
+use Rattle.std.specs.Prelude.{◌≡◌, ◌<◌, ◌==◌, ◌||◌, max, ℕ, Bool, false, List, map, slice_index, slice_index_or}
 use Rattle.std.specs.List.{list_any}
 use Rattle.rf_problem.specs.Reading.{Assignment, Choice, element_of}
 use Rattle.rf_problem.specs.declared.predicate.Literal.{Literal}

@@ -1,13 +1,11 @@
-use Rattle.std.proofs.Common.{◌≡◌, ◌<◌, ◌≤◌, ◌+◌, ◌∙◌, ◌≢◌, ℕ, sym, ap, subst, length, arith, rules, nat_cmp, true, false, Some, IfOk}
-use Rattle.std.specs.Cmp.Lexicographic.{slice_cmp}
-use Rattle.rf_evaluate.specs.Elements.{count, element_at}
-use Rattle.rf_evaluate.specs.Evaluating.{with_element}
+use Rattle.std.proofs.Common.{◌≡◌, ◌<◌, ◌≤◌, ◌+◌, ℕ, sym, subst, arith, rules}
+use Rattle.rf_evaluate.specs.Elements.{count}
 use Rattle.rf_evaluate.specs.Hunts.{IsPlaced}
 use Rattle.rf_evaluate.specs.declared.stage.Stage.{Stage}
 use Rattle.rf_evaluate.proofs.Reached.{IsFull}
 use Rattle.rf_evaluate.proofs.Candidates.{element_at-below}
-use Rattle.rf_evaluate.proofs.Remaining.{remaining, remaining-with, remaining-without}
-use Rattle.rf_evaluate.proofs.Searching.{IfOk-then, IsOfArity-with, IsPlaced-with, first-False, first-past, first-with, first-with_all, first-without, one_at}
+use Rattle.rf_evaluate.proofs.Remaining.{remaining, remaining-with}
+use Rattle.rf_evaluate.proofs.Searching.{IfOk-then, IsOfArity-with, IsPlaced-with, first-with, first-with_all, first-without, one_at}
 use Rattle.rf_evaluate.proofs.search.+search.Goals as goal
 
 pub search-returns-in-Some-clause-first : goal.search-returns-in-Some-clause-first

@@ -1,6 +1,5 @@
-use Rattle.std.proofs.Common.{◌≡◌, ◌⊎◌, ℕ, ◌+◌, ◌*◌, Some, nat_cmp}
+use Rattle.std.proofs.Common.{◌+◌, ◌*◌, nat_cmp}
 use Rattle.std.specs.Cmp.Lexicographic.{slice_cmp}
-use Rattle.rf_finite.specs.Firsts.{IsFirstOf}
 use Rattle.rf_evaluate.specs.Hunts.{IsFirstOfBoth, IsReachedWith}
 use Rattle.rf_evaluate.specs.Kept.{AreKept}
 use Rattle.rf_evaluate.proofs.Remaining.{remaining}

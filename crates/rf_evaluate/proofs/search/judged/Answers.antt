@@ -1,9 +1,8 @@
-use Rattle.std.proofs.Common.{◌≡◌, ◌∙◌, ◌≢◌, sym, ap, subst, length, take, arith, rules, nat_cmp, true, false, true≢false, Some}
+use Rattle.std.proofs.Common.{◌≡◌, ◌∙◌, ◌≢◌, sym, ap, subst, take, rules, nat_cmp, true, true≢false}
 use Rattle.std.specs.Cmp.Lexicographic.{slice_cmp}
 use Rattle.std.proofs.lemmas.Cmp.{nat_list_cmp_total}
 use Rattle.rf_values.specs.declared.truth.Truth.TheVariants.{False}
 use Rattle.rf_values.specs.Truth.{conjunction}
-use Rattle.rf_evaluate.specs.Evaluating.{completed_value}
 use Rattle.rf_evaluate.specs.Hunts.{IsFirstOfBoth, IsReached}
 use Rattle.rf_evaluate.proofs.BothFirsts.{IsFirstOfBoth-none, IsFirstOfBoth-one}
 use Rattle.rf_evaluate.proofs.Reached.{IsFull, IsReached-closed, possible-closed, tuple-closed}
