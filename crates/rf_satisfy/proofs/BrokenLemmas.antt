@@ -1,12 +1,11 @@
 -- What is asserted of a symbol isn't satisfied where it holds though that is denied, at a literal of an enum, or where an
 -- assertion wants it to hold.
-use Rattle.std.proofs.Common.{◌≡◌, ◌∙◌, ℕ, ◌+◌, ◌<◌, ◌≤◌, Bool, true, false, not, ◌&&◌, ◌||◌, ◌==◌, Option, None, Some, List, [], ◌∷◌, length, map, take, get_or, refl, sym, ap, subst, inl, inr, arith, true≢false}
+use Rattle.std.proofs.Common.{◌≡◌, ◌∙◌, ℕ, ◌+◌, ◌<◌, ◌≤◌, Bool, true, false, ◌&&◌, ◌||◌, ◌==◌, Option, List, [], ◌∷◌, length, map, take, get_or, refl, sym, ap, subst, inl, inr, true≢false}
 use Rattle.std.specs.List.{list_any}
 use Rattle.std.proofs.lemmas.Bool.{cases_Bool, and_parts, and_from, or_cases, or_left, or_right, both_ways, eqb-true, false_from_ne_true}
 use Rattle.std.proofs.lemmas.List.{get_or_default, take_all}
-use Rattle.std.proofs.lemmas.List.Folds.{Any-from_list_any, list_any_at, list_any_more}
+use Rattle.std.proofs.lemmas.List.Folds.{Any-from_list_any, list_any_more}
 use Rattle.rf_finite.proofs.Lists.{list_any-more_pass}
-use Rattle.rf_values.specs.declared.truth.Truth.{Truth}
 use Rattle.rf_values.specs.declared.truth.Truth.TheVariants.{True, False}
 use Rattle.rf_problem.specs.Asserted.{asserted, is_literal_of, match_each, unwritten, when}
 use Rattle.rf_problem.specs.Parts.{object_at, predicate_at, same_symbol}
@@ -20,7 +19,7 @@ use Rattle.rf_graph.specs.Graph.{origin_of}
 use Rattle.rf_graph.specs.declared.graph.Graph.{Graph}
 use Rattle.rf_satisfy.specs.Suspects.{assertion_at, denies, is_broken, is_denied_at, is_error_symbol, is_excess, is_lack_by, is_stray, is_suspect, is_suspect_by, is_unwritten_at, no_assertion, speaks_at, wants}
 use Rattle.rf_satisfy.specs.Tuples.{ArePassing, IsFirst, earlier}
-use Rattle.rf_satisfy.proofs.SuspectLemmas.{found, found-is, list_any-weaker}
+use Rattle.rf_satisfy.proofs.SuspectLemmas.{found-is, list_any-weaker}
 use Rattle.rf_satisfy.proofs.TupleLemmas.{IsFirst-earlier, IsFirst-same}
 
 -- what is asserted unwritten is denied by holding only of an error predicate

@@ -1,12 +1,12 @@
 -- Tuples of nodes whose origins match arguments, and what merged assertions break.
-use Rattle.std.proofs.Common.{◌≡◌, ℕ, suc, ◌+◌, ◌-◌, ◌<◌, ◌≤◌, Bool, true, false, cond, not, ◌&&◌, ◌||◌, eqb, Option, Some, None, List, [], ◌∷◌, ◌++◌, length, map, take, get_or, refl, sym, ap, ◌∙◌, subst, inl, inr, arith, true≢false, add-one, length-append}
+use Rattle.std.proofs.Common.{◌≡◌, ℕ, suc, ◌+◌, ◌-◌, ◌<◌, Bool, true, false, cond, not, ◌&&◌, ◌||◌, eqb, Option, Some, None, List, [], ◌∷◌, ◌++◌, length, map, take, get_or, refl, sym, ap, ◌∙◌, subst, inl, inr, arith, true≢false, add-one, length-append}
 use Rattle.std.specs.Prelude.{filter}
 use Rattle.std.specs.List.{list_any}
 use Rattle.std.specs.Option.{is_some, option_map}
 use Rattle.std.specs.Cmp.{both_ways as same_tests}
 use Rattle.std.proofs.lemmas.Bool.{cases_Bool, cases_order, and_parts, and_from, or_cases, or_left, or_right, both_ways, eq-eqb, eqb-true, false_from_ne_true}
-use Rattle.std.proofs.lemmas.List.{get_or_default, length-map, take_all}
-use Rattle.std.proofs.lemmas.List.Folds.{Any-from_list_any, list_any-append, list_any_more}
+use Rattle.std.proofs.lemmas.List.{get_or_default, take_all}
+use Rattle.std.proofs.lemmas.List.Folds.{Any-from_list_any, list_any-append}
 use Rattle.rf_finite.specs.Range.{first_below}
 use Rattle.rf_finite.proofs.Range.{first_below-at, first_below-none, one-from_some_below, some_below-from_one}
 use Rattle.rf_values.specs.Truth.{merge}
@@ -14,11 +14,11 @@ use Rattle.rf_values.specs.declared.truth.Truth.{Truth}
 use Rattle.rf_values.specs.declared.truth.Truth.TheVariants.{True, False, Unknown, Error}
 use Rattle.rf_problem.specs.Asserted.{default_values, is_default, is_literal_of, is_ordinary, match_each, matches, merge_first, ordinary_values, speaks_of, unwritten, when}
 use Rattle.rf_problem.specs.Merged.{merge_all}
-use Rattle.rf_problem.specs.Parts.{arity_of, object_at, predicate_at, same_symbol}
+use Rattle.rf_problem.specs.Parts.{arity_of, object_at, same_symbol}
 use Rattle.rf_problem.specs.declared.assertion.Assertion.{Assertion}
 use Rattle.rf_problem.specs.declared.problem.Problem.{Problem}
 use Rattle.rf_problem.specs.declared.symbol.Symbol.{Symbol}
-use Rattle.rf_problem.specs.declared.symbol.Symbol.TheVariants.{Class, Predicate}
+use Rattle.rf_problem.specs.declared.symbol.Symbol.TheVariants.{Class}
 use Rattle.rf_graph.specs.Evaluate.{holds}
 use Rattle.rf_graph.specs.First.{breaks, first_broken}
 use Rattle.rf_graph.specs.Graph.{origin_of, size_of}

@@ -1,12 +1,12 @@
 -- Private: no public contract cites this.
 -- Tuples at which what is asserted isn't satisfied, found assertion by assertion.
-use Rattle.std.specs.Prelude.{ℕ, Bool, true, false, ◌&&◌, ◌||◌, ◌==◌, Option, Some, List, [], ◌∷◌, length, map, slice_index_or}
+use Rattle.std.specs.Prelude.{ℕ, Bool, true, false, ◌&&◌, ◌==◌, Option, Some, List, [], ◌∷◌, length, map, slice_index_or}
 use Rattle.std.specs.List.{list_any}
 use Rattle.rf_finite.specs.Range.{some_below}
 use Rattle.rf_values.specs.declared.truth.Truth.{Truth}
 use Rattle.rf_values.specs.declared.truth.Truth.TheVariants.{True}
 use Rattle.rf_problem.specs.Asserted.{asserted, is_literal_of, match_each, unwritten}
-use Rattle.rf_problem.specs.Parts.{arity_of, object_at, predicate_at, same_symbol}
+use Rattle.rf_problem.specs.Parts.{object_at, predicate_at, same_symbol}
 use Rattle.rf_problem.specs.declared.assertion.Assertion.{Assertion}
 use Rattle.rf_problem.specs.declared.problem.Problem.{Problem}
 use Rattle.rf_problem.specs.declared.symbol.Symbol.{Symbol}

@@ -1,4 +1,4 @@
-use Rattle.std.proofs.Common.{arith, ◌≡◌, ◌<◌, ℕ, ap, sym, ◌∙◌}
+use Rattle.std.proofs.Common.{arith, ◌<◌, ℕ, ap, sym, ◌∙◌}
 use Rattle.rf_graph.specs.First.{first_broken}
 use Rattle.rf_satisfy.specs.SymbolKinds.{count_of, symbol_of}
 use Rattle.rf_satisfy.proofs.SuspectLemmas.{first_below-found}

@@ -1,6 +1,6 @@
-use Rattle.std.proofs.Common.{◌≡◌, ◌∙◌, ◌<◌, ℕ, arith, sym, ap, length, None, Option, Some}
+use Rattle.std.proofs.Common.{◌≡◌, ◌∙◌, ◌<◌, arith, sym, ap, length}
 use Rattle.rf_problem.specs.declared.assertion.Assertion.{Assertion}
-use Rattle.rf_satisfy.specs.SymbolKinds.{AreNumbered, number_of}
+use Rattle.rf_satisfy.specs.SymbolKinds.{number_of}
 use Rattle.rf_satisfy.proofs.NumberLemmas.{numbered-put, numbered-skip}
 use Rattle.rf_satisfy.proofs.asserted.numbers_by_symbol.Goals as goal
 use Rattle.rf_satisfy.proofs.asserted.numbers_by_symbol.Goals.{in-Some+in_ok-put-in-Some, in-None}

@@ -1,4 +1,3 @@
-use Rattle.std.proofs.Common.{sym}
 use Rattle.rf_satisfy.proofs.KnownLemmas.{first-node}
 use Rattle.rf_satisfy.proofs.excess.first_excess.Goals as goal
 
