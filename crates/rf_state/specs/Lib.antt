@@ -1,0 +1,3 @@
+-- what public contracts cite, in the order of reading
+pub mod State
+pub mod StateKnown

@@ -1,0 +1,9 @@
+//! States of partial knowledge: objects that stand for nodes, and what is known of the facts between
+//! them.
+#![tactic(auto)]
+
+mod facts;
+mod object;
+
+pub use facts::Facts;
+pub use object::Object;
