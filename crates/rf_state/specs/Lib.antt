@@ -2,3 +2,5 @@
 pub mod State
 pub mod StateKnown
 pub mod Meaning
+-- what private functions use
+pub mod Root

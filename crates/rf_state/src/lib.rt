@@ -4,6 +4,7 @@
 
 mod facts;
 mod object;
+mod root;
 mod state;
 
 pub use facts::Facts;

@@ -1,12 +1,14 @@
 //! A state, and what is read of it.
 
-ghost use Rattle.std.specs.Prelude.{◌≡◌, ◌<◌, length};
+ghost use Rattle.std.specs.Prelude.{◌≡◌, ◌<◌, length, IfOk};
 ghost use Rattle.rf_state.specs.Meaning.{added_at, meaning};
-ghost use Rattle.rf_state.specs.State.{by_classes, object_of, some_candidate, told, told_back};
+ghost use Rattle.rf_state.specs.State.{IsRoot, by_classes, object_of, some_candidate, told, told_back};
 
+use crate::root::root_objects;
 use crate::{Facts, Object};
 use rf_problem::{Problem, Symbol};
 use rf_values::{ClassSet, Count, Truth};
+use std::alloc::{AllocError, Global};
 use std::collections::BTreeMap;
 
 /// A state of a problem.
@@ -25,6 +27,21 @@ fn added_at(added: &BTreeMap<(u32, u64, u64), Truth>, r: u32, a: u64, b: u64) ->
     match added.get(&(r, a, b)) {
         Some(truth) => *truth,
         None => Truth::Unknown,
+    }
+}
+
+impl<'p> State<'p> {
+    /// The state in which nothing was added.
+    pub fn root(alloc: Global, problem: &'p Problem) -> Result<State<'p>, AllocError>
+        ensures problem { IfOk result (λ s. s.problem.now ≡ problem.now) }
+        ensures root { IfOk result (λ s. IsRoot problem.now (meaning s)) }
+    {
+        let objects = root_objects(alloc, problem)?;
+        Ok(State {
+            problem,
+            objects,
+            added: BTreeMap::new(alloc),
+        })
     }
 }
 
