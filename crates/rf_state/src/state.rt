@@ -4,6 +4,8 @@ ghost use Rattle.std.specs.Prelude.{◌≡◌, ◌<◌, length, IfOk};
 ghost use Rattle.rf_state.specs.Meaning.{added_at, meaning};
 ghost use Rattle.rf_state.specs.State.{IsRoot, by_classes, object_of, some_candidate, told, told_back};
 
+mod edits;
+
 use crate::root::root_objects;
 use crate::{Facts, Object};
 use rf_problem::{Problem, Symbol};
