@@ -1,36 +1,22 @@
 -- Maps by a reference and two objects, with one key more.
 use Rattle.std.proofs.Common.{◌≡◌, ◌∙◌, ℕ, Bool, true, false, ◌&&◌, if◌then◌else◌, cond, eqb, Option, Some, unwrap_or, refl, sym, ap, ap₂}
-use Rattle.std.specs.BTreeMap.{BTreeMap, get}
-use Rattle.std.specs.Cmp.{both_tied, unsigned_ties}
+use Rattle.std.specs.BTreeMap.{get}
+use Rattle.std.specs.Cmp.{both_tied, nat_eq_equiv, unsigned_ties}
 use Rattle.std.specs.Ordering.{is_eq}
-use Rattle.std.specs.Prelude.{◌==◌}
-use Rattle.std.proofs.lemmas.Bool.{and_parts, eq-eqb, eqb-true}
+use Rattle.std.proofs.Math.Bool.{and_assoc}
+use Rattle.std.proofs.lemmas.Bool.{and_parts, eqb-true}
 use Rattle.rf_values.specs.Truth.{merge}
 use Rattle.rf_values.specs.declared.truth.Truth.{Truth}
 use Rattle.rf_values.specs.declared.truth.Truth.TheVariants.{Unknown}
-use Rattle.rf_problem.proofs.BelowLemmas.{same_tests}
+use Rattle.rf_state.specs.Copies.{Added, is_key}
 use Rattle.rf_state.specs.Meaning.{Key, added_at, key_cmp}
-
-abbrev pub Added : Type 0
-Added = BTreeMap Key Truth
-
--- whether these are the same reference and objects
-abbrev pub is_key : ℕ → ℕ → ℕ → ℕ → ℕ → ℕ → Bool
-is_key r a b q x y = q == r && (x == a && y == b)
-
-eqb-turned : (a b : ℕ) → eqb a b ≡ eqb b a
-eqb-turned a b = same_tests (eqb a b) (eqb b a) (λ e. eq-eqb b a (sym (eqb-true a b e))) (λ e. eq-eqb a b (sym (eqb-true b a e)))
-
-and_grouped : (a b c : Bool) → ((a && b) && c) ≡ (a && (b && c))
-and_grouped true b c = refl
-and_grouped false b c = refl
 
 -- keys are tied where they are the same
 pub is_key-tied : (r a b q x y : ℕ) → is_eq (key_cmp (r, a, b) (q, x, y)) ≡ is_key r a b q x y
 is_key-tied r a b q x y =
     sym (both_tied _ _ _ _ (both_tied _ _ _ _ (unsigned_ties r q) (unsigned_ties a x)) (unsigned_ties b y))
-    ∙ and_grouped (eqb r q) (eqb a x) (eqb b y)
-    ∙ ap₂ (λ s t. s && t) (eqb-turned r q) (ap₂ (λ s t. s && t) (eqb-turned a x) (eqb-turned b y))
+    ∙ and_assoc (eqb r q) (eqb a x) (eqb b y)
+    ∙ ap₂ (λ s t. s && t) (nat_eq_equiv.symm r q) (ap₂ (λ s t. s && t) (nat_eq_equiv.symm a x) (nat_eq_equiv.symm b y))
 
 -- one key is given a value
 abbrev pub IsPut : Added → ℕ → ℕ → ℕ → Option Truth → Added → Type 0

@@ -1,3 +1,4 @@
 pub mod Candidates
 pub mod Roots
 pub mod Keys
+pub mod CopyLemmas

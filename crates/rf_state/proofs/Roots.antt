@@ -1,5 +1,6 @@
 -- The objects of the root, one after another, and their candidates, class by class.
-use Rattle.std.proofs.Common.{◌≡◌, ◌∙◌, ℕ, ◌+◌, ◌<◌, Bool, true, false, ◌&&◌, List, [], ◌∷◌, ◌++◌, refl, sym, ap, subst, inl, inr, arith, add-one}
+use Rattle.std.proofs.Common.{◌≡◌, ◌∙◌, ℕ, ◌+◌, ◌<◌, Bool, ◌&&◌, List, [], ◌∷◌, ◌++◌, sym, ap, subst, inl, inr, arith, add-one}
+use Rattle.std.proofs.Math.Bool.{and_assoc}
 use Rattle.std.proofs.lemmas.List.{get_or_append_left, get_or_push, length_push}
 use Rattle.rf_finite.specs.Range.{all_below}
 use Rattle.rf_finite.proofs.Range.{below_or_last}
@@ -8,15 +9,10 @@ use Rattle.rf_state.specs.Root.{AreRootObjects, IsRootObject}
 use Rattle.rf_state.specs.State.{no_object}
 use Rattle.rf_state.specs.declared.object.Object.{Object}
 
-and_inward : (a b c d : Bool) → ((a && (b && c)) && d) ≡ (a && (b && (c && d)))
-and_inward true true c d = refl
-and_inward true false c d = refl
-and_inward false b c d = refl
-
 -- what passes two tests and one for each number, with one number more
 pub passes-more : (a b old now : Bool) (p : ℕ → Bool) (n : ℕ) → old ≡ (a && (b && all_below n p)) → now ≡ (old && p n)
     → now ≡ (a && (b && all_below (n + 1) p))
-passes-more a b old now p n was is = rw add-one (is ∙ ap (λ x. x && p n) was ∙ and_inward a b (all_below n p) (p n))
+passes-more a b old now p n was is = rw add-one (is ∙ ap (λ x. x && p n) was ∙ and_assoc a (b && all_below n p) (p n) ∙ ap (λ x. a && x) (and_assoc b (all_below n p) (p n)))
 
 -- one object more
 pub AreRootObjects-more :

@@ -2,5 +2,6 @@
 pub mod State
 pub mod StateKnown
 pub mod Meaning
--- what private functions use
+-- what only the contracts of private functions cite
 pub mod Root
+pub mod Copies

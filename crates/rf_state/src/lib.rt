@@ -2,6 +2,7 @@
 //! them.
 #![tactic(auto)]
 
+mod copies;
 mod facts;
 mod object;
 mod root;

@@ -45,6 +45,21 @@ impl<'p> State<'p> {
             added: BTreeMap::new(alloc),
         })
     }
+
+    /// The same state once more.
+    pub fn copy(&self, alloc: Global) -> Result<State<'p>, AllocError>
+        ensures problem { IfOk result (λ s. s.problem.now ≡ self.now.problem.now) }
+        ensures same { IfOk result (λ s. meaning s ≡ meaning self.now) }
+    {
+        let mut objects = Vec::with_capacity(alloc, self.objects.len())?;
+        objects.extend_from_slice(&self.objects)?;
+        let added = self.added.clone()?;
+        Ok(State {
+            problem: self.problem,
+            objects,
+            added,
+        })
+    }
 }
 
 impl State<'_> {

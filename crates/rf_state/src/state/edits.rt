@@ -1,11 +1,12 @@
 //! What changes a state.
 
-ghost use Rattle.std.specs.Prelude.{◌≡◌, ◌<◌, length, OnOk, OnErr};
+ghost use Rattle.std.specs.Prelude.{◌≡◌, ◌≢◌, ◌<◌, Some, length, IfOk, OnOk, OnErr};
 ghost use Rattle.rf_state.specs.Meaning.{meaning};
-ghost use Rattle.rf_state.specs.State.{kept_to, merged_at, narrowed};
+ghost use Rattle.rf_state.specs.State.{fresh_of, kept_to, merged_at, narrowed, object_of};
 
 use super::{State, added_at};
 use crate::Object;
+use crate::copies::{Fresh, copies};
 use rf_values::{ClassSet, Count, Truth};
 use std::alloc::AllocError;
 
@@ -51,5 +52,34 @@ impl State<'_> {
             candidates: object.candidates.both(set),
             ..object
         };
+    }
+
+    /// Makes a fresh object of an object, which stands for one of its nodes and in each added fact in which that one
+    /// stands. The answer is its number.
+    pub fn fresh(&mut self, o: u64) -> Result<u64, AllocError>
+        requires object { o < length (meaning self.old).objects }
+        requires node { (object_of (meaning self.old) o).count.hi ≢ Some 0 }
+        ensures problem { self.new.problem.now ≡ self.old.problem.now }
+        ensures number { IfOk result (λ n. n ≡ length (meaning self.old).objects) }
+        ensures fresh { OnOk result (meaning self.new ≡ fresh_of (meaning self.old) o) }
+        ensures unchanged { OnErr result (meaning self.new ≡ meaning self.old) }
+    {
+        let number = self.objects.len() as u64;
+        let added = copies(
+            *self.objects.allocator(),
+            &self.added,
+            Fresh { number, of: o },
+        )?;
+        let object = *self.object(o);
+        self.objects.push(Object {
+            count: Count { lo: 1, hi: Some(1) },
+            ..object
+        })?;
+        self.objects[o as usize] = Object {
+            count: object.count.less_one(),
+            ..object
+        };
+        self.added = added;
+        Ok(number)
     }
 }
