@@ -1,0 +1,4 @@
+pub mod Candidates
+pub mod Roots
+pub mod Keys
+pub mod CopyLemmas

@@ -1,0 +1,85 @@
+//! What changes a state.
+
+ghost use Rattle.std.specs.Prelude.{◌≡◌, ◌≢◌, ◌<◌, Some, length, IfOk, OnOk, OnErr};
+ghost use Rattle.rf_state.specs.Meaning.{meaning};
+ghost use Rattle.rf_state.specs.State.{fresh_of, kept_to, merged_at, narrowed, object_of};
+
+use super::{State, added_at};
+use crate::Object;
+use crate::copies::{Fresh, copies};
+use rf_values::{ClassSet, Count, Truth};
+use std::alloc::AllocError;
+
+impl State<'_> {
+    /// Merges a truth into what was added of an edge.
+    pub fn merge(&mut self, r: u32, a: u64, b: u64, v: Truth) -> Result<(), AllocError>
+        requires reference { r < length self.old.problem.now.references }
+        requires from { a < length (meaning self.old).objects }
+        requires to { b < length (meaning self.old).objects }
+        ensures problem { self.new.problem.now ≡ self.old.problem.now }
+        ensures merged { OnOk result (meaning self.new ≡ merged_at (meaning self.old) r a b v) }
+        ensures unchanged { OnErr result (meaning self.new ≡ meaning self.old) }
+    {
+        let before = added_at(&self.added, r, a, b);
+        let after = before.merge(v);
+        if after != before {
+            self.added.insert((r, a, b), after)?;
+        }
+        Ok(())
+    }
+
+    /// Leaves an object those of its numbers of nodes that a count allows too.
+    pub fn narrow(&mut self, o: u64, count: Count)
+        requires { o < length (meaning self.old).objects }
+        ensures problem { self.new.problem.now ≡ self.old.problem.now }
+        ensures narrowed { meaning self.new ≡ narrowed (meaning self.old) o count }
+    {
+        let object = *self.object(o);
+        self.objects[o as usize] = Object {
+            count: object.count.meet(count),
+            ..object
+        };
+    }
+
+    /// Leaves an object those of its candidates that are in a set.
+    pub fn keep(&mut self, o: u64, set: ClassSet)
+        requires { o < length (meaning self.old).objects }
+        ensures problem { self.new.problem.now ≡ self.old.problem.now }
+        ensures kept { meaning self.new ≡ kept_to (meaning self.old) o set }
+    {
+        let object = *self.object(o);
+        self.objects[o as usize] = Object {
+            candidates: object.candidates.both(set),
+            ..object
+        };
+    }
+
+    /// Makes a fresh object of an object, which stands for one of its nodes and in each added fact in which that one
+    /// stands. The answer is its number.
+    pub fn fresh(&mut self, o: u64) -> Result<u64, AllocError>
+        requires object { o < length (meaning self.old).objects }
+        requires node { (object_of (meaning self.old) o).count.hi ≢ Some 0 }
+        ensures problem { self.new.problem.now ≡ self.old.problem.now }
+        ensures number { IfOk result (λ n. n ≡ length (meaning self.old).objects) }
+        ensures fresh { OnOk result (meaning self.new ≡ fresh_of (meaning self.old) o) }
+        ensures unchanged { OnErr result (meaning self.new ≡ meaning self.old) }
+    {
+        let number = self.objects.len() as u64;
+        let added = copies(
+            *self.objects.allocator(),
+            &self.added,
+            Fresh { number, of: o },
+        )?;
+        let object = *self.object(o);
+        self.objects.push(Object {
+            count: Count { lo: 1, hi: Some(1) },
+            ..object
+        })?;
+        self.objects[o as usize] = Object {
+            count: object.count.less_one(),
+            ..object
+        };
+        self.added = added;
+        Ok(number)
+    }
+}
