@@ -4,6 +4,8 @@
 
 mod facts;
 mod object;
+mod value;
 
 pub use facts::Facts;
 pub use object::Object;
+pub use value::evaluate;
