@@ -1,1 +1,4 @@
 pub mod ClassLemmas
+pub mod ValueLemmas
+pub mod FactLemmas
+pub mod EditLemmas

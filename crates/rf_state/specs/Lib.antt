@@ -1,3 +1,4 @@
 -- what public contracts cite, in the order of reading
 pub mod State
 pub mod StateKnown
+pub mod Laws

@@ -3,9 +3,11 @@
 #![tactic(auto)]
 
 mod facts;
+mod laws;
 mod object;
 mod value;
 
 pub use facts::Facts;
+pub use laws::{fact_law, fresh_law, keep_law, narrow_law, value_law};
 pub use object::Object;
 pub use value::evaluate;
