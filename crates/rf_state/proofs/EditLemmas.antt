@@ -23,7 +23,7 @@ module _ (p : Problem) (s : State) (o : ℕ) (object : Object) (there : o < leng
   other x ne = get_or-set_other s.objects o x object no_object ne
 
   pub same_but_for : AreSameButFor o s after
-  same_but_for = record { many = length-set s.objects o object; others = other }
+  same_but_for = record { many = length-set s.objects o object; others = other; added = λ r a b. refl }
 
   origin-same : (x : ℕ) → (object_of after x).origin ≡ (object_of s x).origin
   origin-same x = elim (cases_eq x o) [

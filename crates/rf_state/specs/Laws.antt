@@ -51,10 +51,16 @@ MergeIsNowhereElse =
     → (((reference_at p.references r).opposite ≡ Some k) × (x ≡ b) × (y ≡ a) → ⊥)
     → fact p (merged_at s r a b v) k x y ≡ fact p s k x y
 
--- the states have the same objects but for object o
+-- and no object is another
+abbrev pub MergeKeepsObjects : Type 0
+MergeKeepsObjects =
+    (s : State) (r a b : ℕ) (v : Truth) → (merged_at s r a b v).objects ≡ s.objects
+
+-- the states have the same objects but for object o, and in them the same was added
 pub record AreSameButFor (o : ℕ) (s u : State) : Type 0 where
   pub many : length u.objects ≡ length s.objects
   pub others : (x : ℕ) → x ≢ o → object_of u x ≡ object_of s x
+  pub added : (r a b : ℕ) → u.added r a b ≡ s.added r a b
 
 -- a count that is narrowed is met with the other, and nothing else changes: no other object, and no fact
 pub record IsCountNarrowed (p : Problem) (s : State) (o : ℕ) (count : Count) (u : State) : Type 0 where

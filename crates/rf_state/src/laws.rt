@@ -1,6 +1,6 @@
 //! What holds of states and of edits of them, each law as the contract of a function that does nothing.
 
-ghost use Rattle.rf_state.specs.Laws.{FreshIsOneNode, KeepingIsOfCandidates, MayValueIsInWords, MergeIsAtEdge, MergeIsAtOpposite, MergeIsNowhereElse, MustValueIsInWords, NarrowingIsOfCount, OppositesAreMirrored};
+ghost use Rattle.rf_state.specs.Laws.{FreshIsOneNode, KeepingIsOfCandidates, MayValueIsInWords, MergeIsAtEdge, MergeIsAtOpposite, MergeIsNowhereElse, MergeKeepsObjects, MustValueIsInWords, NarrowingIsOfCount, OppositesAreMirrored};
 
 /// The value of a predicate says in which words it holds: by what has to hold, and by what can.
 pub fn value_law()
@@ -9,12 +9,13 @@ pub fn value_law()
 {}
 
 /// A merge goes into what is known of an edge and of the edge back of the opposite, which are the same,
-/// and nowhere else.
+/// and nowhere else. It changes no object.
 pub fn fact_law()
     ensures mirrored { OppositesAreMirrored }
     ensures edge { MergeIsAtEdge }
     ensures opposite { MergeIsAtOpposite }
     ensures nowhere_else { MergeIsNowhereElse }
+    ensures objects { MergeKeepsObjects }
 {}
 
 /// Narrowing a count changes that count alone.
