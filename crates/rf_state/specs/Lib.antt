@@ -1,6 +1,7 @@
 -- what public contracts cite, in the order of reading
 pub mod State
 pub mod StateKnown
+pub mod Laws
 pub mod Meaning
 -- what only the contracts of private functions cite
 pub mod Root

@@ -82,7 +82,7 @@ pub record IsRoot (p : Problem) (s : State) : Type 0 where
   pub nothing : (r a b : ℕ) → s.added r a b ≡ Unknown
 
 -- whether these are the same reference and objects
-abbrev is_at : ℕ → ℕ → ℕ → ℕ → ℕ → ℕ → Bool
+abbrev pub is_at : ℕ → ℕ → ℕ → ℕ → ℕ → ℕ → Bool
 is_at r a b q x y = q == r && (x == a && y == b)
 
 -- the state with this truth merged into what was added of an edge
