@@ -1,5 +1,6 @@
 pub mod Candidates
 pub mod Roots
+pub mod RootLemmas
 pub mod Keys
 pub mod ClassLemmas
 pub mod ValueLemmas
