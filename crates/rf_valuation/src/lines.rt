@@ -101,7 +101,14 @@ fn push_tuple<F: Facts>(
         (F.problem facts.now) predicate tuple (value (F.problem facts.now) (F.state facts.now) predicate tuple)) }
 {
     let value = evaluate(alloc, facts, predicate, tuple)?;
-    push_line(alloc, out, facts.problem(), predicate, tuple.as_slice(), value)
+    push_line(
+        alloc,
+        out,
+        facts.problem(),
+        predicate,
+        tuple.as_slice(),
+        value,
+    )
 }
 
 /// The tuple with one number more.
@@ -153,11 +160,7 @@ fn push_lines_from<F: Facts>(
 }
 
 /// Appends the lines of all predicates, in their order.
-pub fn push_valuation<F: Facts>(
-    alloc: Global,
-    out: &mut Text,
-    facts: &F,
-) -> Result<(), AllocError>
+pub fn push_valuation<F: Facts>(alloc: Global, out: &mut Text, facts: &F) -> Result<(), AllocError>
     requires { length (F.state facts.now).objects ≡ length (F.problem facts.now).objects }
     ensures { OnOk result (out.new ≡ out.old ++ valuation (F.problem facts.now) (F.state facts.now)) }
 {

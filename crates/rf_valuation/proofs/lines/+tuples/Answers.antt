@@ -1,5 +1,4 @@
-use Rattle.std.proofs.Common.{◌≡◌, ◌∙◌, ◌++◌, ◌∷◌, ◌-◌, ◌<◌, [], ap, sym, arith, length}
-use Rattle.rf_state.specs.State.{object_of}
+use Rattle.std.proofs.Common.{◌≡◌, ◌∙◌, ◌++◌, ◌-◌, ap, sym, arith, length}
 use Rattle.rf_valuation.specs.Valuation.{joined_below, lines_from}
 use Rattle.rf_valuation.proofs.LineLemmas.{joined-more, joined-same, lines_at, lines_at-none, lines_at-one, lines_from-deeper}
 use Rattle.rf_valuation.proofs.lines.+tuples.Goals as goal
