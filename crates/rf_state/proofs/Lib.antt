@@ -1,5 +1,6 @@
 pub mod Candidates
 pub mod Roots
+pub mod RootLemmas
 pub mod Keys
 pub mod CopyLemmas
 pub mod ClassLemmas

@@ -11,8 +11,12 @@ use Rattle.rf_problem.specs.Parts.{predicate_at, reference_at}
 use Rattle.rf_problem.specs.declared.problem.Problem.{Problem}
 use Rattle.rf_problem.specs.declared.symbol.Symbol.TheVariants.{Predicate}
 use Rattle.rf_evaluate.specs.Known.{side}
-use Rattle.rf_state.specs.State.{State, fact, fresh_of, kept_to, merged_at, narrowed, object_of, told}
+use Rattle.rf_state.specs.State.{IsRoot, State, fact, fresh_of, kept_to, merged_at, narrowed, object_of, told}
 use Rattle.rf_state.specs.StateKnown.{state_known, value}
+
+-- two states that are the root of one problem are the same
+abbrev pub RootIsUnique : Type 0
+RootIsUnique = (p : Problem) (s u : State) → IsRoot p s → IsRoot p u → s ≡ u
 
 -- by its value a predicate has to hold exactly where it holds in words by what has to hold of the objects, with what can hold
 -- inside negations

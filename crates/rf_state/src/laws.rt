@@ -1,6 +1,11 @@
 //! What holds of states and of edits of them, each law as the contract of a function that does nothing.
 
-ghost use Rattle.rf_state.specs.Laws.{FreshIsOneNode, KeepingIsOfCandidates, MayValueIsInWords, MergeIsAtEdge, MergeIsAtOpposite, MergeIsNowhereElse, MergeKeepsObjects, MustValueIsInWords, NarrowingIsOfCount, OppositesAreMirrored};
+ghost use Rattle.rf_state.specs.Laws.{FreshIsOneNode, KeepingIsOfCandidates, MayValueIsInWords, MergeIsAtEdge, MergeIsAtOpposite, MergeIsNowhereElse, MergeKeepsObjects, MustValueIsInWords, NarrowingIsOfCount, OppositesAreMirrored, RootIsUnique};
+
+/// The root of a problem is one state.
+pub fn root_law()
+    ensures { RootIsUnique }
+{}
 
 /// The value of a predicate says in which words it holds: by what has to hold, and by what can.
 pub fn value_law()

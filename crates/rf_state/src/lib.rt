@@ -11,7 +11,7 @@ mod state;
 mod value;
 
 pub use facts::Facts;
-pub use laws::{fact_law, fresh_law, keep_law, narrow_law, value_law};
+pub use laws::{fact_law, fresh_law, keep_law, narrow_law, root_law, value_law};
 pub use object::Object;
 pub use state::State;
 pub use value::evaluate;

@@ -1,0 +1,4 @@
+-- what public contracts cite
+pub mod Valuation
+-- what private functions use
+pub mod Separator
