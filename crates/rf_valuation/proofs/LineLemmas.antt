@@ -8,19 +8,19 @@ use Rattle.rf_state.specs.State.{State, object_of}
 use Rattle.rf_valuation.specs.Valuation.{joined_below, lines_from}
 
 -- what is appended twice is appended once
-pub appended-twice :
+appended-twice :
     (old between new first second : List ℕ) → between ≡ old ++ first → new ≡ between ++ second → new ≡ old ++ (first ++ second)
 appended-twice old between new first second was is =
     is ∙ ap (λ bytes. bytes ++ second) was ∙ append_assoc old first second
 
 -- the parts below one number more
-pub joined-more :
+joined-more :
     (n : ℕ) (part : ℕ → List ℕ) (old between new : List ℕ) → between ≡ old ++ joined_below n part → new ≡ between ++ part n
     → new ≡ old ++ joined_below (n + 1) part
 joined-more n part old between new was is = rw add-one (appended-twice old between new (joined_below n part) (part n) was is)
 
 -- and where this part is empty
-pub joined-same :
+joined-same :
     (n : ℕ) (part : ℕ → List ℕ) (old between : List ℕ) → between ≡ old ++ joined_below n part → part n ≡ []
     → between ≡ old ++ joined_below (n + 1) part
 joined-same n part old between was is = joined-more n part old between between was (sym (ap (λ bytes. between ++ bytes) is ∙ append-nil between))
@@ -30,7 +30,7 @@ abbrev pub lines_at : Problem → State → ℕ → ℕ → List ℕ → ℕ →
 lines_at p s q k t o = if within 1 (object_of s o).count.hi then lines_from p s q k (t ++ o ∷ []) else []
 
 -- with more objects to come, the lines are those with each object for the next
-pub lines_from-deeper :
+lines_from-deeper :
     (p : Problem) (s : State) (q left : ℕ) (t : List ℕ) → (left ≡ 0 → ⊥)
     → lines_from p s q left t ≡ joined_below (length s.objects) (lines_at p s q (left - 1) t)
 lines_from-deeper p s q zero t more = absurd (more refl)
@@ -38,10 +38,32 @@ lines_from-deeper p s q (suc k) t more =
     let e : k ≡ suc k - 1 = omega arith in
     ap (λ (j : ℕ). joined_below (length s.objects) (lines_at p s q j t)) e
 
--- the lines of an object that may have a node, and of one that may not
-pub lines_at-one : (p : Problem) (s : State) (q k : ℕ) (t : List ℕ) (o : ℕ) → within 1 (object_of s o).count.hi ≡ true
-    → lines_at p s q k t o ≡ lines_from p s q k (t ++ o ∷ [])
-lines_at-one p s q k t o e = ap (λ (b : Bool). if b then lines_from p s q k (t ++ o ∷ []) else []) e
+-- the lines so far, and those of an object that may have a node
+pub lines-one :
+    (p : Problem) (s : State) (q k : ℕ) (t : List ℕ) (o : ℕ) (may : Bool) (tuple old before between now : List ℕ)
+    → before ≡ old ++ joined_below o (lines_at p s q k t) → may ≡ within 1 (object_of s o).count.hi → may ≡ true → tuple ≡ t ++ o ∷ []
+    → between ≡ before ++ lines_from p s q k tuple → now ≡ between
+    → now ≡ old ++ joined_below (o + 1) (lines_at p s q k t)
+lines-one p s q k t o may tuple old before between now was tested there longer is same =
+    let lines : lines_at p s q k t o ≡ lines_from p s q k (t ++ o ∷ []) =
+    ap (λ (b : Bool). if b then lines_from p s q k (t ++ o ∷ []) else []) (sym tested ∙ there) in
+    same ∙ joined-more o (lines_at p s q k t) old before between was (is ∙ ap (λ bytes. before ++ bytes) (ap (lines_from p s q k) longer ∙ sym lines))
 
-pub lines_at-none : (p : Problem) (s : State) (q k : ℕ) (t : List ℕ) (o : ℕ) → within 1 (object_of s o).count.hi ≡ false → lines_at p s q k t o ≡ []
-lines_at-none p s q k t o e = ap (λ (b : Bool). if b then lines_from p s q k (t ++ o ∷ []) else []) e
+-- and those of one that may not, which are none
+pub lines-none :
+    (p : Problem) (s : State) (q k : ℕ) (t : List ℕ) (o : ℕ) (may : Bool) (old before now : List ℕ)
+    → before ≡ old ++ joined_below o (lines_at p s q k t) → may ≡ within 1 (object_of s o).count.hi → may ≡ false → now ≡ before
+    → now ≡ old ++ joined_below (o + 1) (lines_at p s q k t)
+lines-none p s q k t o may old before now was tested empty same =
+    same
+    ∙ joined-same o (lines_at p s q k t) old before was
+    (ap (λ (b : Bool). if b then lines_from p s q k (t ++ o ∷ []) else []) (sym tested ∙ empty))
+
+-- where there are no more objects, these are all lines
+pub lines-all :
+    (p : Problem) (s : State) (q left : ℕ) (t : List ℕ) (o : ℕ) (old now : List ℕ) → (left ≡ 0 → ⊥) → o ≡ length s.objects
+    → now ≡ old ++ joined_below o (lines_at p s q (left - 1) t)
+    → now ≡ old ++ lines_from p s q left t
+lines-all p s q left t o old now more ended was =
+    was
+    ∙ ap (λ bytes. old ++ bytes) (ap (λ n. joined_below n (lines_at p s q (left - 1) t)) ended ∙ sym (lines_from-deeper p s q left t more))
