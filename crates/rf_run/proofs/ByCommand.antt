@@ -64,7 +64,7 @@ pub within_of_answer : (c : Command) (p : Problem) (second : List ℕ) (a : Repl
 within_of_answer (Check file graph) p second a answers = answers.drawn.short
 within_of_answer (Generate file seed budget json) p second a answers = absurd answers
 within_of_answer (Verify file tree) p second a answers = absurd answers
-within_of_answer (Evaluate file) p second a answers = absurd answers
+within_of_answer (Evaluate file) p second a answers = tt
 within_of_answer (Session file script) p second a answers = absurd answers
 within_of_answer (Grow n) p second a answers = absurd answers
 

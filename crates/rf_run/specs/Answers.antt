@@ -4,8 +4,10 @@ use Rattle.rf_problem.specs.declared.problem.Problem.{Problem}
 use Rattle.rf_graph.specs.Violations.{IsVerdict, Sat}
 use Rattle.rf_graph.specs.declared.graph.Graph.{Graph}
 use Rattle.rf_graph.specs.declared.verdict.Verdict.{Verdict}
+use Rattle.rf_state.specs.State.{IsRoot, State}
+use Rattle.rf_valuation.specs.Valuation.{valuation}
 use Rattle.rf_words.specs.declared.request.Command.{Command}
-use Rattle.rf_words.specs.declared.request.Command.TheVariants.{Check}
+use Rattle.rf_words.specs.declared.request.Command.TheVariants.{Check, Evaluate}
 use Rattle.rf_run.specs.declared.end.Reply.{Reply}
 use Rattle.rf_run.specs.declared.end.Sign.{Sign}
 use Rattle.rf_run.specs.declared.end.Sign.TheVariants.{Yes, No, Unfinished}
@@ -21,9 +23,17 @@ pub record AnswersCheck (p : Problem) (second : List ℕ) (reply : Reply) : Type
   pub text : reply.text ≡ verdict_text p verdict
   pub sign : reply.sign ≡ sign_of verdict
 
+-- `evaluate` answers the values of the predicates in the state in which nothing was added
+pub record AnswersEvaluate (p : Problem) (reply : Reply) : Type 0 where
+  pub root : State
+  pub is_root : IsRoot p root
+  pub text : reply.text ≡ valuation p root
+  pub sign : reply.sign ≡ Yes
+
 -- the answer of a command on its problem and the bytes of its second file
 abbrev pub Answers : Command → Problem → List ℕ → Reply → Type 0
 Answers (Check file graph) p second reply = AnswersCheck p second reply
+Answers (Evaluate file) p second reply = AnswersEvaluate p reply
 Answers _ p second reply = ⊥
 
 -- a yes says that the graph satisfies the problem, a no that it doesn't
@@ -35,4 +45,5 @@ IsRightVerdict p g Unfinished = ⊥
 -- what an answer promises, in the user's words
 abbrev pub IsRight : Command → Problem → List ℕ → Reply → Type 0
 IsRight (Check file graph) p second reply = (g : Graph) → IsDrawn second p g → IsRightVerdict p g reply.sign
+IsRight (Evaluate file) p second reply = (s : State) → IsRoot p s → reply.text ≡ valuation p s
 IsRight _ p second reply = ⊥

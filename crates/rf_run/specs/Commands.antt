@@ -10,6 +10,7 @@ use Rattle.rf_run.specs.declared.refusal.TheConstants.{GRAPH_LIMIT, SCRIPT_LIMIT
 -- the commands that are built; the words of the others are answered as usage
 abbrev pub IsBuilt : Command → Type 0
 IsBuilt (Check file graph) = Unit {0}
+IsBuilt (Evaluate file) = Unit {0}
 IsBuilt _ = ⊥
 
 -- the file of the problem

@@ -8,3 +8,4 @@ pub mod Line
 pub mod Refuses
 pub mod Stages
 pub mod Verdict
+pub mod Jobs

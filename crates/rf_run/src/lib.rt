@@ -6,6 +6,7 @@
 mod check;
 mod end;
 mod ends;
+mod evaluate;
 mod files;
 mod job;
 mod leave;

@@ -1,15 +1,15 @@
 use Rattle.std.proofs.Common.{◌∙◌, refl, sym, subst}
 use Rattle.rf_words.specs.Meaning.{IsCommand}
-use Rattle.rf_words.specs.declared.request.Command.TheVariants.{Check}
 use Rattle.rf_run.specs.Commands.{IsBuilt}
 use Rattle.rf_run.specs.Ends.{IsUsage}
+use Rattle.rf_run.specs.Jobs.{command_of}
 use Rattle.rf_run.proofs.OneCommand.{IsOnly, only_complete, only_ended, only_right, usage_ended}
 use Rattle.rf_run.proofs.ends.end_of.Goals as goal
 
 pub returns-in-Some-clause-ended : goal.returns-in-Some-clause-ended
 returns-in-Some-clause-ended g c =
-    let only : IsOnly c.args.words.now (Check c.in-Some.job.file c.in-Some.job.graph) = record {
-      built = tt;
+    let only : IsOnly c.args.words.now (command_of c.in-Some.job) = record {
+      built = c.in-Some.ensures.built;
       is = subst (IsCommand c.args.words.now) c.in-Some.ensures.some c.in-Ok.ensures.ok;
       one = λ d is. sym c.in-Some.ensures.some ∙ c.in-Ok.ensures.found d is;
     } in
@@ -17,8 +17,8 @@ returns-in-Some-clause-ended g c =
 
 pub returns-in-Some-clause-right : goal.returns-in-Some-clause-right
 returns-in-Some-clause-right g c =
-    let only : IsOnly c.args.words.now (Check c.in-Some.job.file c.in-Some.job.graph) = record {
-      built = tt;
+    let only : IsOnly c.args.words.now (command_of c.in-Some.job) = record {
+      built = c.in-Some.ensures.built;
       is = subst (IsCommand c.args.words.now) c.in-Some.ensures.some c.in-Ok.ensures.ok;
       one = λ d is. sym c.in-Some.ensures.some ∙ c.in-Ok.ensures.found d is;
     } in
@@ -26,8 +26,8 @@ returns-in-Some-clause-right g c =
 
 pub returns-in-Some-clause-complete : goal.returns-in-Some-clause-complete
 returns-in-Some-clause-complete g c =
-    let only : IsOnly c.args.words.now (Check c.in-Some.job.file c.in-Some.job.graph) = record {
-      built = tt;
+    let only : IsOnly c.args.words.now (command_of c.in-Some.job) = record {
+      built = c.in-Some.ensures.built;
       is = subst (IsCommand c.args.words.now) c.in-Some.ensures.some c.in-Ok.ensures.ok;
       one = λ d is. sym c.in-Some.ensures.some ∙ c.in-Ok.ensures.found d is;
     } in
