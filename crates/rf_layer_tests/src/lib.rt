@@ -1,0 +1,7 @@
+//! Tests of layers that no command uses whole yet.
+#![tactic(auto)]
+
+#[cfg(test)]
+mod states;
+#[cfg(test)]
+mod sums;
