@@ -41,6 +41,33 @@ fn narrow(state: &mut State<'_>, o: u64, count: Count) {
     }
 }
 
+// Leaves an object only the candidates below a class, and tells whether another class is still one.
+fn keep_below(state: &mut State<'_>, o: u64, class: u32, other: u32) -> Option<bool> {
+    let classes = state.problem().classes.as_slice().len();
+    if o < state.objects() && (class as usize) < classes {
+        let below = state.problem().classes.below(class);
+        state.keep(o, below);
+    }
+    if o < state.objects() {
+        return Some(state.candidates(o).has(other));
+    }
+    None
+}
+
+#[test]
+fn candidates_are_kept(rt: HostRuntime) -> Result<(), Fail> {
+    let alloc = rt.alloc();
+    let text = b"class A. class B extends A. A(a).".as_slice();
+    let Ok(problem) = read_source(alloc, text) else {
+        panic!(rt; "the problem is read");
+    };
+    let mut state = State::root(alloc, &problem)?;
+    assert_eq!(rt; keep_below(&mut state, 0, 0, 0), Some(true));
+    assert_eq!(rt; keep_below(&mut state, 0, 1, 0), Some(false));
+    assert_eq!(rt; keep_below(&mut state, 0, 1, 1), Some(true));
+    Ok(())
+}
+
 #[test]
 fn edits_follow_each_other(rt: HostRuntime) -> Result<(), Fail> {
     let alloc = rt.alloc();
