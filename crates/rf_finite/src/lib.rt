@@ -4,6 +4,7 @@
 #![tactic(auto)]
 
 mod laws;
+mod order;
 mod parts;
 mod rule;
 mod upper_ends;
@@ -12,6 +13,7 @@ pub use laws::{
     all_below_law, count_below_law, ends_below_law, first_below_law, first_law, first_tuple_law,
     no_cycle_law, some_below_law, sum_below_law, walk_law,
 };
+pub use order::earlier;
 pub use parts::{Parts, sum_of_ends, sum_of_parts};
 pub use rule::{Rule, first_found};
 pub use upper_ends::{add_ends, within};

@@ -8,16 +8,12 @@ use Rattle.std.specs.Ordering.{eq_by_cmp, is_eq, nat_cmp}
 use Rattle.std.specs.declared.cmp.Ordering.{Ordering}
 use Rattle.std.proofs.lemmas.Bool.{and_parts, eqb-true}
 use lib.Pointwise.{pointwise}
-use Rattle.rf_problem.specs.Parts.{same_symbol}
+use Rattle.rf_problem.specs.Parts.{same_symbol, symbol_cmp}
 use Rattle.rf_problem.specs.Spoken.{same_args}
 use Rattle.rf_problem.specs.Table.{is_key, key_cmp, key_of}
-use Rattle.rf_problem.specs.contracts.symbol.SymbolOrd.TheImpl as symbol_ord
 use Rattle.rf_problem.specs.declared.symbol.Symbol.{Symbol}
 use Rattle.rf_problem.specs.declared.symbol.Symbol.TheVariants.{Class, Reference, Predicate as Defined, Exists, Equals}
 use Rattle.rf_problem.specs.declared.table.Key.{Key}
-
-abbrev symbol_cmp : Symbol → Symbol → Ordering
-symbol_cmp = (symbol_ord.ghosts).cmp
 
 -- symbols are tied where they are the same
 symbol-tied : (a b : Symbol) → same_symbol a b ≡ is_eq (symbol_cmp a b)

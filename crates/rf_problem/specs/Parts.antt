@@ -1,5 +1,6 @@
 -- References, predicates, objects and scopes by their numbers, and what kinds of symbol there are.
 use Rattle.std.specs.Prelude.{nat_eq, ℕ, Bool, true, false, List, [], slice_index_or, None}
+use Rattle.std.specs.declared.cmp.Ordering.{Ordering}
 use Rattle.rf_problem.specs.declared.object.ObjectDecl.{ObjectDecl}
 use Rattle.rf_problem.specs.declared.object.ObjectKind.TheVariants.{Plain as PlainObject}
 use Rattle.rf_problem.specs.declared.object.ObjectName.TheVariants.{NewOf}
@@ -8,6 +9,7 @@ use Rattle.rf_problem.specs.declared.reference.RefKind.{RefKind}
 use Rattle.rf_problem.specs.declared.reference.RefKind.TheVariants.{Plain, Contains, Container}
 use Rattle.rf_problem.specs.declared.reference.Reference.{Reference as Relation}
 use Rattle.rf_problem.specs.declared.scope.Scope.{Scope}
+use Rattle.rf_problem.specs.contracts.symbol.SymbolOrd.TheImpl as symbol_ord
 use Rattle.rf_problem.specs.declared.symbol.Symbol.{Symbol}
 use Rattle.rf_problem.specs.declared.symbol.Symbol.TheVariants.{Class, Reference, Predicate as Defined, Exists, Equals}
 
@@ -51,6 +53,10 @@ same_symbol (Defined a) (Defined b) = nat_eq a b
 same_symbol Exists Exists = true
 same_symbol Equals Equals = true
 same_symbol _ _ = false
+
+-- the order of symbols, by which tables have them
+abbrev pub symbol_cmp : Symbol → Symbol → Ordering
+symbol_cmp = (symbol_ord.ghosts).cmp
 
 -- how many arguments a symbol has
 abbrev pub arity_of : List Predicate → Symbol → ℕ
