@@ -35,7 +35,7 @@ use Rattle.rf_problem.specs.declared.problem.Problem.{Problem}
 use Rattle.rf_problem.specs.Valid.{new_numbers, new_object}
 use Rattle.rf_names.specs.Declarations.{ClassDecl, Declared, ReferenceDecl, kind_of_word, PredicateDecl, AssertDecl, object_name, param_names}
 use Rattle.rf_names.specs.Texts.{reads}
-use Rattle.rf_names.specs.LookUp.{class_named, enum_of, the_number, opposite_of, literal_symbols, sense_of, the_symbol, numbers_where, item_named, new_object_of, object_named, assertion_symbols, named_objects}
+use Rattle.rf_names.specs.LookUp.{class_named, enum_of, the_number, opposite_of, literal_symbols, sense_of, the_symbol, numbers_where, item_named, new_object_of, object_named, named_objects, sensed, SensedDecl}
 use Rattle.rf_names.specs.Bodies.{term_of, terms_of, with_argument, literal_names, with_variables, clause_variables}
 
 -- the upper end of a range: that of its lower number alone is that number
@@ -199,13 +199,16 @@ resolved_arg d Star = None
 resolved_arg d (OfSymbol s) = Some (object_or_new d (object_name s.name s.member) s.name)
 
 -- an assertion
-abbrev pub resolved_assertion : Declared → AssertDecl → Assertion
-resolved_assertion d a = record {
-  is_default = a.is_default;
-  symbol = the_symbol (sense_of (assertion_symbols d a.atom.symbol));
-  args = map (resolved_arg d) a.atom.args;
-  value = a.value;
+abbrev pub resolved_sensed : Declared → SensedDecl → Assertion
+resolved_sensed d a = record {
+  is_default = a.form.is_default;
+  symbol = the_symbol a.sense;
+  args = map (resolved_arg d) a.form.atom.args;
+  value = a.form.value;
 }
+
+abbrev pub resolved_assertion : Declared → AssertDecl → Assertion
+resolved_assertion d a = resolved_sensed d (sensed d a)
 
 -- a scope; `node` stands for no class
 abbrev pub resolved_scope : Declared → Bound → Scope

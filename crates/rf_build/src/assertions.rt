@@ -3,10 +3,10 @@
 ghost use Rattle.std.specs.Prelude.{◌≡◌, IfOk, map};
 ghost use Rattle.rf_names.specs.Declarations.{object_name};
 ghost use Rattle.rf_names.specs.LookUp.{class_named, new_object_of, the_number, the_symbol};
-ghost use Rattle.rf_build.specs.Resolved.{object_or_new, resolved_arg, resolved_assertion};
+ghost use Rattle.rf_build.specs.Resolved.{object_or_new, resolved_arg, resolved_assertion, resolved_sensed};
 
 use crate::objects::object_number;
-use rf_names::{AssertDeclaration, Names, Sense, object_name};
+use rf_names::{Names, Sense, SensedAssertion, object_name};
 use rf_problem::{Assertion, Symbol};
 use rf_syntax::{Arg, SymbolName};
 use rf_text::Items;
@@ -67,16 +67,16 @@ fn resolved_args(alloc: Global, names: &Names, args: &[Arg]) -> Result<Vec<Optio
 fn resolved_assertion(
     alloc: Global,
     names: &Names,
-    form: &AssertDeclaration,
+    assertion: &SensedAssertion,
 ) -> Result<Assertion, AllocError>
-    ensures { IfOk result (λ assertion.
-        assertion ≡ resolved_assertion names.now.declared.now form.now) }
+    ensures { IfOk result (λ made. made
+        ≡ resolved_sensed names.now.declared.now assertion.now) }
 {
-    let sense = names.assertion_sense(alloc, &form.atom.symbol)?;
+    let form = assertion.form;
     let args = resolved_args(alloc, names, form.atom.args.as_slice())?;
     Ok(Assertion {
         is_default: form.is_default,
-        symbol: the_symbol(sense),
+        symbol: the_symbol(assertion.sense),
         args: Items::from_vec(args),
         value: form.value,
     })
@@ -87,10 +87,9 @@ pub fn resolved_assertions(alloc: Global, names: &Names) -> Result<Vec<Assertion
     ensures { IfOk result (λ assertions. assertions.items
         ≡ map (resolved_assertion names.now.declared.now) names.now.declared.now.assertions) }
 {
-    let declared = names.declared;
     let mut assertions = Vec::new(alloc);
-    for form in declared.assertions.as_slice() {
-        assertions.push(resolved_assertion(alloc, names, form)?)?;
+    for assertion in names.assertions() {
+        assertions.push(resolved_assertion(alloc, names, assertion)?)?;
     }
     Ok(assertions)
 }

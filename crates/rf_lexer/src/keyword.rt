@@ -24,7 +24,7 @@ pub enum Keyword {
     Unknown,
 }
 
-const KEYWORDS: [Keyword; 18] = [
+static KEYWORDS: [Keyword; 18] = [
     Keyword::Abstract,
     Keyword::Atom,
     Keyword::Class,

@@ -1,4 +1,4 @@
-ghost use Rattle.std.specs.Prelude.{◌≡◌, ◌≢◌, ◌<◌, ◌↔◌, ◌∷◌, ◌++◌, ℕ, List, false, length, IfOk, IfErr, IsTrue};
+ghost use Rattle.std.specs.Prelude.{◌≡◌, ◌≢◌, ◌<◌, ◌≤◌, ◌↔◌, ◌∷◌, ◌++◌, ℕ, List, false, length, IfOk, IfErr, IsTrue};
 ghost use Rattle.std.specs.Char.{is_ascii_digit};
 ghost use Rattle.std.specs.Str.{chars};
 ghost use Rattle.rf_lexer.specs.Gap.{BeginsNoGap};
@@ -75,6 +75,7 @@ fn first_lexeme(alloc: Global, offset: u64, text: &str) -> Result<(Kind, &str), 
 // The tokens of the text.
 fn tokens_of(alloc: Global, text: &str) -> Result<Vec<Token>, Failure<LexError>>
     ensures ok { IfOk result (λ v. Lexemes text.now v.items) }
+    ensures few { IfOk result (λ v. length v.items ≤ length text.now) }
     ensures fault { IfErr result (λ e. IfFault e (LexFault text.now)) }
 {
     let mut tokens = Vec::new(alloc);
@@ -97,6 +98,7 @@ fn tokens_of(alloc: Global, text: &str) -> Result<Vec<Token>, Failure<LexError>>
 /// and after them. A fault is the first one of the text. It takes time in proportion to the text.
 pub fn lex(alloc: Global, text: &str) -> Result<Vec<Token>, Failure<LexError>>
     ensures answers { Answers (λ v. v.items) (Lexemes text.now) (LexFault text.now) result }
+    ensures few { IfOk result (λ v. length v.items ≤ length text.now) }
 {
     tokens_of(alloc, text)
 }

@@ -53,7 +53,7 @@ pub enum Mark {
 }
 
 // A mark follows each longer one that begins with it.
-const MARKS: [Mark; 21] = [
+static MARKS: [Mark; 21] = [
     Mark::Iff,
     Mark::DotDot,
     Mark::ColonColon,

@@ -1,2 +1,1 @@
-pub mod JoinedOffsets
 pub mod RepeatedNames

@@ -2,11 +2,10 @@
 
 ghost use Rattle.std.specs.Prelude.{◌≡◌, IfOk};
 ghost use Rattle.rf_names.specs.Offsets.{least_of};
-ghost use Rattle.rf_names.specs.LookUp.{assertion_symbols, sense_of};
 ghost use Rattle.rf_name_rules.specs.NameOffsets.{ambiguous_literal, ambiguous_offsets, ambiguous_opposite, ambiguous_symbol, is_ambiguous, last_offset};
 
 use rf_names::{
-    AssertDeclaration, Names, OffsetRule, ReferenceDeclaration, Sense, least_among,
+    Names, OffsetRule, ReferenceDeclaration, Sense, SensedAssertion, least_among,
     least_in_literals, lesser, offset_if, opposites_named,
 };
 use rf_syntax::{BodyLiteral, SymbolName};
@@ -71,18 +70,16 @@ impl<'n, 'a> OffsetRule<BodyLiteral> for AmbiguousNames<'n, 'a> {
     }
 }
 
-impl<'n, 'a> OffsetRule<AssertDeclaration<'a>> for AmbiguousNames<'n, 'a> {
-    ghost offsets = { λ rule a.
-        ambiguous_symbol
-        (sense_of (assertion_symbols rule.names.now.declared.now a.atom.symbol)) a.atom.symbol };
+impl<'n, 'a> OffsetRule<SensedAssertion<'a>> for AmbiguousNames<'n, 'a> {
+    ghost offsets = { λ rule a. ambiguous_symbol a.sense a.form.atom.symbol };
 
     fn least_in(
         &self,
-        alloc: Global,
-        assertion: &AssertDeclaration<'a>,
+        _alloc: Global,
+        assertion: &SensedAssertion<'a>,
     ) -> Result<Option<u64>, AllocError> {
-        let sense = self.names.assertion_sense(alloc, &assertion.atom.symbol)?;
-        Ok(ambiguous_symbol(sense, &assertion.atom.symbol))
+        let form = assertion.form;
+        Ok(ambiguous_symbol(assertion.sense, &form.atom.symbol))
     }
 }
 
@@ -94,6 +91,6 @@ pub fn ambiguous(alloc: Global, names: &Names) -> Result<Option<u64>, AllocError
     let declared = names.declared;
     let references = least_among(alloc, &rule, declared.references.as_slice())?;
     let literals = least_in_literals(alloc, &rule, names)?;
-    let assertions = least_among(alloc, &rule, declared.assertions.as_slice())?;
+    let assertions = least_among(alloc, &rule, names.assertions())?;
     Ok(lesser(lesser(references, literals), assertions))
 }

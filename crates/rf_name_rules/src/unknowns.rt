@@ -1,16 +1,16 @@
 //! Names that stand for nothing of the kind that is needed where they stand.
 
-ghost use Rattle.std.specs.Prelude.{◌≡◌, IfOk, slice_index_or};
+ghost use Rattle.std.specs.Prelude.{◌≡◌, ◌++◌, IfOk, slice_index_or};
 ghost use Rattle.std.specs.List.{flat_map};
-ghost use Rattle.rf_names.specs.LookUp.{assertion_symbols, has_new, no_class_decl, sense_of};
+ghost use Rattle.rf_names.specs.LookUp.{has_new, no_class_decl};
 ghost use Rattle.rf_names.specs.Texts.{is_text_of};
 ghost use Rattle.rf_names.specs.Offsets.{least_of, offset_if};
-ghost use Rattle.rf_name_rules.specs.NameOffsets.{can_be_extended, has_no_new, is_no_object, is_unknown, reserved_names, unknown_arg, unknown_assertion, unknown_bound, unknown_class, unknown_literal, unknown_member, unknown_object, unknown_offsets, unknown_opposite, unknown_param_class, unknown_reference, unknown_super, unknown_symbol};
+ghost use Rattle.rf_name_rules.specs.NameOffsets.{can_be_extended, has_no_new, is_no_object, is_unknown, reserved_names, unknown_arg, unknown_bound, unknown_class, unknown_literal, unknown_member, unknown_object, unknown_offsets, unknown_opposite, unknown_param_class, unknown_reference, unknown_super, unknown_symbol};
 
 use rf_names::{
-    AssertDeclaration, ClassDeclaration, Names, OffsetRule, PredicateDeclaration,
-    ReferenceDeclaration, Sense, least_among, least_among_lent, least_in_literals, lesser,
-    offset_if, opposites_named,
+    ClassDeclaration, Names, OffsetRule, PredicateDeclaration, ReferenceDeclaration, Sense,
+    SensedAssertion, least_among, least_among_lent, least_in_literals, lesser, offset_if,
+    opposites_named,
 };
 use rf_syntax::{Arg, BodyLiteral, Bound, Name, Param, SymbolName};
 use std::alloc::{AllocError, Global};
@@ -26,7 +26,7 @@ pub fn unknown(alloc: Global, names: &Names) -> Result<Option<u64>, AllocError>
     let predicates = least_among(alloc, &rule, declared.predicates.as_slice())?;
     let bounds = least_among_lent(alloc, &rule, declared.bounds.as_slice())?;
     let literals = least_in_literals(alloc, &rule, names)?;
-    let assertions = least_among(alloc, &rule, declared.assertions.as_slice())?;
+    let assertions = least_among(alloc, &rule, names.assertions())?;
     let earlier = lesser(lesser(lesser(classes, references), predicates), bounds);
     Ok(lesser(lesser(earlier, literals), assertions))
 }
@@ -128,16 +128,20 @@ impl<'n, 'a> OffsetRule<Arg> for UnknownNames<'n, 'a> {
     }
 }
 
-impl<'n, 'a> OffsetRule<AssertDeclaration<'a>> for UnknownNames<'n, 'a> {
-    ghost offsets = { λ rule. unknown_assertion rule.names.now.declared.now };
+impl<'n, 'a> OffsetRule<SensedAssertion<'a>> for UnknownNames<'n, 'a> {
+    ghost offsets = { λ rule a.
+        unknown_symbol
+        rule.names.now.declared.now a.sense a.form.atom.symbol.name a.form.atom.symbol.member
+        ++ flat_map (unknown_arg rule.names.now.declared.now) a.form.atom.args };
 
     fn least_in(
         &self,
         alloc: Global,
-        assertion: &AssertDeclaration<'a>,
+        assertion: &SensedAssertion<'a>,
     ) -> Result<Option<u64>, AllocError> {
-        let atom = assertion.atom;
-        let symbol = unknown_asserted(alloc, self.names, &atom.symbol)?;
+        let form = assertion.form;
+        let atom = form.atom;
+        let symbol = unknown_symbol(self.names, assertion.sense, &atom.symbol);
         let args = least_among(alloc, self, atom.args.as_slice())?;
         Ok(lesser(symbol, args))
     }
@@ -295,19 +299,4 @@ fn unknown_object(names: &Names, symbol: &SymbolName) -> Option<u64>
             unknown_member(names, &symbol.name, member),
         ),
     }
-}
-
-fn unknown_asserted(
-    alloc: Global,
-    names: &Names,
-    symbol: &SymbolName,
-) -> Result<Option<u64>, AllocError>
-    ensures { IfOk result (λ at.
-        at ≡ least_of (
-        unknown_symbol names.now.declared.now
-        (sense_of (assertion_symbols names.now.declared.now symbol.now))
-        symbol.now.name symbol.now.member)) }
-{
-    let sense = names.assertion_sense(alloc, symbol)?;
-    Ok(unknown_symbol(names, sense, symbol))
 }

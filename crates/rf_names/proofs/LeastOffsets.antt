@@ -1,12 +1,14 @@
 -- The least offset of lists that are joined, and of one list more in a loop.
-use Rattle.std.proofs.Common.{◌≡◌, ◌<◌, ◌+◌, ℕ, List, [], ◌∷◌, ◌++◌, suc, length, take, get_or, min, Option, None, Some, arith, refl, sym, ap, ◌∙◌, append_assoc, append-nil}
+use Rattle.std.proofs.Common.{◌≡◌, ◌<◌, ◌+◌, ℕ, List, [], ◌∷◌, ◌++◌, suc, length, map, take, get_or, min, Option, None, Some, arith, refl, sym, ap, ◌∙◌, append_assoc, append-nil}
 use Rattle.std.proofs.lemmas.Grind.{common_steps}
 use Rattle.std.proofs.lemmas.List.{length-take-le, take_more}
 use Rattle.std.proofs.lemmas.List.Concat.{flat_map-append}
+use Rattle.std.proofs.lemmas.List.Folds.{flat_map-map}
 use Rattle.std.specs.List.{flat_map}
 use Rattle.rf_syntax.specs.declared.predicate.BodyLiteral.{BodyLiteral}
 use Rattle.rf_syntax.specs.declared.predicate.Param.{Param}
-use Rattle.rf_names.specs.Declarations.{PredicateDecl}
+use Rattle.rf_names.specs.Declarations.{Declared, PredicateDecl}
+use Rattle.rf_names.specs.LookUp.{SensedDecl, sensed}
 use Rattle.rf_names.specs.Offsets.{least_of, lesser, offsets_from, offsets_in_clauses}
 
 lesser_assoc : (a b c : Option ℕ) → lesser (lesser a b) c ≡ lesser a (lesser b c)
@@ -23,6 +25,10 @@ pub least_of_append : (xs ys : List ℕ) → least_of (xs ++ ys) ≡ lesser (lea
 least_of_append [] ys = refl
 least_of_append (x ∷ xs) ys =
     ap (lesser (Some x)) (least_of_append xs ys) ∙ sym (lesser_assoc (Some x) (least_of xs) (least_of ys))
+
+-- the least offset of two lists, where the least offsets of both are known
+pub least_join : (xs ys : List ℕ) (a b : Option ℕ) → a ≡ least_of xs → b ≡ least_of ys → lesser a b ≡ least_of (xs ++ ys)
+least_join xs ys a b first second = rw (first, second) (sym (least_of_append xs ys))
 
 -- the offsets in one more item
 pub least_of_snoc : {X : Type 0} (f : X → List ℕ) (xs : List X) (x : X) → least_of (flat_map f (xs ++ x ∷ [])) ≡ lesser (least_of (flat_map f xs)) (least_of (f x))
@@ -55,6 +61,11 @@ least_of_numbered f xs i x below is =
     ∙ ap least_of (offsets_from_snoc f 0 i (take i xs) (get_or xs i x) here)
     ∙ least_of_append (offsets_from f 0 (take i xs)) (f i (get_or xs i x))
     ∙ ap (λ y. lesser (least_of (offsets_from f 0 (take i xs))) (least_of (f i y))) (sym is)
+
+-- offsets in assertions of which is known what their symbols stand for
+pub least_of_sensed : (d : Declared) (f : SensedDecl → List ℕ) (known : List SensedDecl) (at : Option ℕ) → at ≡ least_of (flat_map f known) → known ≡ map (sensed d) d.assertions → at ≡ least_of (flat_map (λ a. f (sensed d a)) d.assertions)
+least_of_sensed d f known at least are =
+    least ∙ ap (λ xs. least_of (flat_map f xs)) are ∙ ap least_of (flat_map-map f (sensed d) d.assertions)
 
 -- offsets in clauses that don't rest on the numbers of predicates
 pub in_clauses : (f : List Param → List BodyLiteral → List ℕ) (n : ℕ) (ps : List PredicateDecl) → offsets_in_clauses (λ _. f) n ps ≡ flat_map (λ p. flat_map (f p.params) p.clauses) ps

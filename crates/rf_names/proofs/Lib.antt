@@ -1,4 +1,5 @@
 pub mod AtomLemmas
+pub mod FewDeclared
 pub mod FirstLemmas
 pub mod FoundLemmas
 pub mod Gathered

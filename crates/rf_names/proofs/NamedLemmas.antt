@@ -7,6 +7,7 @@ use Rattle.std.proofs.lemmas.List.Folds.{find_at}
 use Rattle.std.proofs.lemmas.List.Quantifiers.{position-Some}
 use Rattle.std.proofs.lemmas.List.Sums.{count_by-le-length}
 use Rattle.std.proofs.lemmas.Option.{slice_get_past, slice_get_read, slice_get-map}
+use Rattle.std.proofs.lemmas.Simd.{map-map}
 use Rattle.std.specs.List.{position, position_or_len}
 use denote.Ref.{Bor}
 use Rattle.rf_syntax.specs.declared.name.Name.{Name}
@@ -75,16 +76,12 @@ item_missing d names text found are finds is =
     sym (finds ∙ ap (position (reads text)) are ∙ position-map (reads text) (λ i. i.name) d.items) ∙ is in
     find_at (λ i. reads text i.name) d.items ∙ slice_get_past d.items _ (position_missing (λ i. reads text i.name) d.items missing)
 
-map-seen : {R S T : Type 0} (g : S → T) (f : R → S) (xs : List R) → map g (map f xs) ≡ map (λ x. g (f x)) xs
-map-seen g f [] = refl
-map-seen g f (x ∷ xs) = ap (λ ys. g (f x) ∷ ys) (map-seen g f xs)
-
 -- the names of items that are lent
 pub item_names-lent : (lent : List (Bor Item)) (all : List Item) → map (λ x. x.now) lent ≡ all → map (λ x. x.now.name) lent ≡ map (λ x. x.name) all
 item_names-lent lent all seen =
     let name : Item → Name = λ x. x.name in
     let now : Bor Item → Item = λ x. x.now in
-    sym (map-seen name now lent) ∙ ap (map name) seen
+    sym (map-map name now lent) ∙ ap (map name) seen
 
 -- few classes have small counts
 pub counts_below :

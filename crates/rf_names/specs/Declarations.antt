@@ -1,5 +1,5 @@
 -- What a problem text declares and states: lists, each in the order of the text.
-use Rattle.std.specs.Prelude.{Bool, List, ℕ, ◌∷◌, [], Option, None, Some, true, false, map, suc, ◌++◌, ◌&&◌, not, filter, codes, if◌then◌else◌, option_to_list}
+use Rattle.std.specs.Prelude.{◌<◌, ◌^◌, length, Bool, List, ℕ, ◌∷◌, [], Option, None, Some, true, false, map, suc, ◌++◌, ◌&&◌, not, filter, codes, if◌then◌else◌, option_to_list}
 use Rattle.std.specs.List.{flat_map, list_any}
 use Rattle.rf_names.specs.Texts.{is_blank, reads}
 use Rattle.rf_syntax.specs.declared.class.Feature.{Feature}
@@ -241,3 +241,9 @@ kind_of_word None = Plain
 kind_of_word (Some Refers) = Plain
 kind_of_word (Some ContainsWord) = Contains
 kind_of_word (Some ContainerWord) = Container
+
+-- numbers of 32 bits are enough for what has such numbers: classes, references and predicates
+pub record AreFew (d : Declared) : Type 0 where
+  pub classes : length d.classes < 2 ^ 32
+  pub references : length d.references < 2 ^ 32
+  pub predicates : length d.predicates < 2 ^ 32

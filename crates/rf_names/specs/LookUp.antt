@@ -9,7 +9,7 @@ use Rattle.rf_problem.specs.declared.symbol.Symbol.TheVariants.{Class, Reference
 use Rattle.rf_syntax.specs.declared.name.SymbolName.{SymbolName}
 use Rattle.rf_syntax.specs.declared.statement.Item.{Item}
 use Rattle.rf_names.specs.Texts.{reads, is_text_of}
-use Rattle.rf_names.specs.Declarations.{ClassDecl, PredicateDecl, Declared, ReferenceDecl}
+use Rattle.rf_names.specs.Declarations.{AssertDecl, ClassDecl, PredicateDecl, Declared, ReferenceDecl}
 use Rattle.rf_names.specs.declared.sense.Sense.{Sense}
 use Rattle.rf_names.specs.declared.sense.Sense.TheVariants.{Nothing, One, Several}
 
@@ -124,6 +124,14 @@ abbrev pub sense_of : List Symbol → Sense
 sense_of [] = Nothing
 sense_of (s ∷ []) = One s
 sense_of (s ∷ t ∷ ss) = Several
+
+-- an assertion, and what its symbol stands for
+pub record SensedDecl : Type 0 where
+  pub form : AssertDecl
+  pub sense : Sense
+
+abbrev pub sensed : Declared → AssertDecl → SensedDecl
+sensed d a = record { form = a; sense = sense_of (assertion_symbols d a.atom.symbol) }
 
 -- the named objects, each by the name at which it occurs first
 abbrev pub named_objects : Declared → List Name

@@ -5,9 +5,9 @@
 //!    atoms, and the names at which it speaks of objects; each list in the order of the text, lent
 //!    from the tree. (`specs/Declarations`)
 //! 2. What names stand for. `Names` keeps tables of these lists, in which the class, the predicate,
-//!    the object, the enum of a literal or the references of a name are found without a scan.
-//!    (`specs/LookUp`) `Arguments` says which arguments of bodies are atoms; the others are variables.
-//!    (`specs/Bodies`)
+//!    the object, the enum of a literal or the references of a name are found without a scan, and for
+//!    each assertion what its symbol stands for. (`specs/LookUp`) `Arguments` says which arguments of
+//!    bodies are atoms; the others are variables. (`specs/Bodies`)
 //! 3. What has no cycle. `has_ranks` shows by ranks of vertices that no walk leads back to its start,
 //!    in time linear in the edges. (`specs/Ranks`)
 //!
@@ -36,8 +36,10 @@ mod opposites;
 mod parts;
 mod ranks;
 mod sense;
+mod sensed;
 mod senses;
 mod supers;
+mod symbol_tables;
 
 pub use arguments::Arguments;
 pub use bodies::{
@@ -60,3 +62,4 @@ pub use parts::{
 };
 pub use ranks::has_ranks;
 pub use sense::Sense;
+pub use sensed::SensedAssertion;

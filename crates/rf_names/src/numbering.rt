@@ -6,6 +6,7 @@ ghost use Rattle.rf_names.specs.LookUp.{first_of_each};
 ghost use Rattle.rf_names.specs.Texts.{reads};
 ghost use Rattle.rf_names.specs.Tables.{AreNumbered};
 
+use crate::bodies::reads;
 use indexmap::IndexMap;
 use rf_syntax::Name;
 use std::alloc::{AllocError, Global};
@@ -39,6 +40,13 @@ impl BuildHasher for DigestState {
     fn build_hasher(&self) -> DefaultHasher {
         self.start
     }
+}
+
+// The number of a name that is the only one, if it reads so.
+fn number_of_one(text: &str, name: &Name) -> Option<u64>
+    ensures { result ≡ position (reads text.now) (name.now ∷ []) }
+{
+    if reads(text, name) { Some(0) } else { None }
 }
 
 /// Names, and for each text the number of the first that reads so.
@@ -110,10 +118,14 @@ impl<'a> Numbering<'a> {
         self.find(text).is_some()
     }
 
-    /// The number of the first name that reads so.
+    /// The number of the first name that reads so. Where there is one name at most, nothing is hashed.
     pub fn find(&self, text: &str) -> Option<u64>
         ensures { result ≡ position (reads text.now) (map (λ n. n.now) self.now.names.items) }
     {
-        self.numbers.get(text).copied()
+        match self.names.as_slice() {
+            [] => None,
+            [name] => number_of_one(text, *name),
+            _ => self.numbers.get(text).copied(),
+        }
     }
 }

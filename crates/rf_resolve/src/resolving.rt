@@ -1,9 +1,11 @@
-ghost use Rattle.std.specs.Prelude.{◌≡◌, IfOk, IfErr, None, Some};
+ghost use Rattle.std.specs.Prelude.{◌≡◌, ◌<◌, ◌^◌, IfOk, IfErr, None, Some, length};
 ghost use Rattle.rf_failure.specs.Answers.{Answers, IfFault};
 ghost use Rattle.rf_resolve.specs.Fault.{NameFault, Resolves, fault_of};
 ghost use Rattle.rf_resolve.specs.Readable.{IsReadableTree};
 ghost use Rattle.rf_build.specs.Resolved.{IsResolved};
 ghost use Rattle.rf_resolve.specs.Texts.{IsOfText};
+ghost use Rattle.rf_names.specs.Declarations.{AreFew};
+ghost use Rattle.rf_syntax.specs.Statement.{spelling_of};
 
 use crate::NameError;
 use crate::faults::first_fault;
@@ -43,7 +45,8 @@ fn resolve_names(alloc: Global, names: &Names) -> Result<Problem, Failure<NameEr
 
 // The problem of these declarations, or the first rule that is broken.
 fn resolve_declared(alloc: Global, declared: &Declarations) -> Result<Problem, Failure<NameError>>
-    requires { IsOfText declared.now }
+    requires read { IsOfText declared.now }
+    requires few { AreFew declared.now }
     ensures sound { IfOk result (λ p. fault_of declared.now ≡ None) }
     ensures ok { IfOk result (λ p. IsResolved declared.now p) }
     ensures fault { IfErr result (λ e. IfFault e (λ f. fault_of declared.now ≡ Some f)) }
@@ -55,7 +58,8 @@ fn resolve_declared(alloc: Global, declared: &Declarations) -> Result<Problem, F
 /// The problem that a tree stands for: each list is that of its declarations in order, each number
 /// that of what a name stands for. A tree has exactly one problem, or one fault.
 pub fn resolve(alloc: Global, ast: &Ast) -> Result<Problem, Failure<NameError>>
-    requires { IsReadableTree ast.now }
+    requires read { IsReadableTree ast.now }
+    requires short { length (spelling_of ast.now) < 2 ^ 32 }
     ensures answers { Answers (λ p. p) (Resolves ast.now) (NameFault ast.now) result }
 {
     let declared = Declarations::of(alloc, ast)?;

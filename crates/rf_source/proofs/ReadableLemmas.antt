@@ -1,8 +1,8 @@
 -- The tokens of a text are readable, and so is a tree that they spell.
-use Rattle.std.proofs.Common.{◌≡◌, ◌≢◌, ◌∙◌, ℕ, zero, suc, ◌<◌, Bool, true, false, not, List, [], ◌∷◌, length, get_or, refl, sym, ap, subst, All, arith, encode_utf8_all}
+use Rattle.std.proofs.Common.{◌≡◌, ◌≢◌, ◌∙◌, ℕ, zero, suc, ◌<◌, ◌^◌, Bool, true, false, not, List, [], ◌∷◌, length, get_or, refl, sym, ap, subst, All, arith, encode_utf8_all}
 use Rattle.std.specs.Str.{NonePass}
 use Rattle.std.proofs.lemmas.Bool.{not_from_true}
-use Rattle.std.proofs.lemmas.List.{get_or_default}
+use Rattle.std.proofs.lemmas.List.{get_or_default, length-map}
 use Rattle.std.proofs.lemmas.Str.{NoCharPasses-byte}
 use Rattle.unicode_ident.specs.Ident.{is_xid_continue}
 use Rattle.unicode_ident.proofs.IdentLemmas.{is_xid_continue-ascii}
@@ -14,7 +14,7 @@ use Rattle.rf_lexer.specs.declared.token.Token.{Token}
 use Rattle.rf_parser.specs.Fit.{Fits, IsTreeOf, token_kinds}
 use Rattle.rf_resolve.specs.Readable.{IsReadable, IsReadableTree}
 use Rattle.rf_syntax.specs.Piece.{Piece, kinds_of}
-use Rattle.rf_syntax.specs.Statement.{pieces_of}
+use Rattle.rf_syntax.specs.Statement.{pieces_of, spelling_of}
 use Rattle.rf_syntax.specs.declared.statement.Ast.{Ast}
 use Rattle.rf_text.specs.Identifier.{EachPasses, IsIdentifier, is_in_quotes}
 use Rattle.rf_text.specs.Written.{CanBeQuoted}
@@ -93,3 +93,9 @@ same_kinds (token ∷ tokens) (piece ∷ pieces) fits =
 pub IsReadableTree-tokens : (tokens : List Token) (ast : Ast) → All IsReadable (token_kinds tokens) → IsTreeOf tokens ast → IsReadableTree ast
 IsReadableTree-tokens tokens ast readable fits =
     subst (λ (kinds : List Kind). All IsReadable kinds) (same_kinds tokens (pieces_of ast) fits) readable
+
+-- and no longer than they are
+pub short_tree : (tokens : List Token) (ast : Ast) → length tokens < 2 ^ 32 → IsTreeOf tokens ast → length (spelling_of ast) < 2 ^ 32
+short_tree tokens ast short fits =
+    let same : length (token_kinds tokens) ≡ length (spelling_of ast) = ap length (same_kinds tokens (pieces_of ast) fits) in
+    omega (arith, same, short, length-map tokens (λ (t : Token). t.kind))

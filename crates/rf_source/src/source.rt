@@ -1,9 +1,10 @@
-ghost use Rattle.std.specs.Prelude.{◌≡◌, All};
+ghost use Rattle.std.specs.Prelude.{◌≡◌, ◌<◌, ◌^◌, All, length};
 ghost use Rattle.rf_failure.specs.Answers.{Answers};
 ghost use Rattle.rf_parser.specs.Fit.{token_kinds};
 ghost use Rattle.rf_resolve.specs.Fault.{Resolves};
 ghost use Rattle.rf_resolve.specs.Readable.{IsReadable, IsReadableTree};
 ghost use Rattle.rf_source.specs.Source.{IsSource, SourceFault, offset_of_token};
+ghost use Rattle.rf_syntax.specs.Statement.{spelling_of};
 ghost use Rattle.rf_source.specs.Private.Stages.{IsTokens, TokensFault, TreeFault, located_fault};
 
 use crate::SourceError;
@@ -39,7 +40,8 @@ fn located(tokens: &[Token], end: u64, error: ParseError) -> SourceError
 
 // The problem of a tree.
 fn read_tree(alloc: Global, ast: &Ast) -> Result<Problem, Failure<SourceError>>
-    requires { IsReadableTree ast.now }
+    requires read { IsReadableTree ast.now }
+    requires short { length (spelling_of ast.now) < 2 ^ 32 }
     ensures { Answers (λ p. p) (Resolves ast.now) (TreeFault ast.now) result }
 {
     match resolve(alloc, ast) {
@@ -51,7 +53,8 @@ fn read_tree(alloc: Global, ast: &Ast) -> Result<Problem, Failure<SourceError>>
 
 // The problem of the tokens of a text, which ends at this offset.
 fn read_tokens(alloc: Global, tokens: &[Token], end: u64) -> Result<Problem, Failure<SourceError>>
-    requires { All IsReadable (token_kinds tokens.now) }
+    requires read { All IsReadable (token_kinds tokens.now) }
+    requires short { length tokens.now < 2 ^ 32 }
     ensures { Answers (λ p. p) (IsTokens tokens.now) (TokensFault tokens.now end) result }
 {
     match parse(alloc, tokens) {
@@ -63,6 +66,7 @@ fn read_tokens(alloc: Global, tokens: &[Token], end: u64) -> Result<Problem, Fai
 
 // The problem of a text.
 fn read_text(alloc: Global, text: &str) -> Result<Problem, Failure<SourceError>>
+    requires { length text.now < 2 ^ 32 }
     ensures { Answers (λ p. p) (IsSource text.now) (SourceFault text.now) result }
 {
     match lex(alloc, text) {
@@ -75,6 +79,7 @@ fn read_text(alloc: Global, text: &str) -> Result<Problem, Failure<SourceError>>
 /// The problem that the bytes of a file stand for, or the fault of the first stage that refuses
 /// them: UTF-8, then tokens, then the grammar, then names.
 pub fn read_source(alloc: Global, bytes: &[u8]) -> Result<Problem, Failure<SourceError>>
+    requires { length bytes.now < 2 ^ 32 }
     ensures answers { Answers (λ p. p) (IsSource bytes.now) (SourceFault bytes.now) result }
 {
     match str::from_utf8(bytes) {

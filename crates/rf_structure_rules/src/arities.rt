@@ -1,12 +1,12 @@
 //! Numbers of arguments.
 
-ghost use Rattle.std.specs.Prelude.{◌≡◌, IfOk};
+ghost use Rattle.std.specs.Prelude.{◌≡◌, IfOk, false, length};
 ghost use Rattle.rf_names.specs.Offsets.{least_of};
 ghost use Rattle.rf_names.specs.LookUp.{can_be_closed, parameters_of};
-ghost use Rattle.rf_structure_rules.specs.StructureOffsets.{arity_offsets, assertion_arity, bad_arity, fits_call, literal_arity};
+ghost use Rattle.rf_structure_rules.specs.StructureOffsets.{arity_offsets, bad_arity, fits_call, literal_arity};
 
 use rf_names::{
-    AssertDeclaration, Names, OffsetRule, Sense, least_among, least_in_literals, lesser, offset_if,
+    Names, OffsetRule, Sense, SensedAssertion, least_among, least_in_literals, lesser, offset_if,
 };
 use rf_problem::Symbol;
 use rf_syntax::BodyLiteral;
@@ -76,19 +76,21 @@ impl<'n, 'a> OffsetRule<BodyLiteral> for Arities<'n, 'a> {
     }
 }
 
-impl<'n, 'a> OffsetRule<AssertDeclaration<'a>> for Arities<'n, 'a> {
-    ghost offsets = { λ rule. assertion_arity rule.names.now.declared.now };
+impl<'n, 'a> OffsetRule<SensedAssertion<'a>> for Arities<'n, 'a> {
+    ghost offsets = { λ rule a.
+        bad_arity
+        rule.names.now.declared.now a.sense false (length a.form.atom.args) a.form.atom.symbol.name.at };
 
     fn least_in(
         &self,
-        alloc: Global,
-        assertion: &AssertDeclaration<'a>,
+        _alloc: Global,
+        assertion: &SensedAssertion<'a>,
     ) -> Result<Option<u64>, AllocError> {
-        let atom = assertion.atom;
-        let sense = self.names.assertion_sense(alloc, &atom.symbol)?;
+        let form = assertion.form;
+        let atom = form.atom;
         Ok(bad_arity(
             self.names,
-            sense,
+            assertion.sense,
             false,
             atom.args.len(),
             atom.symbol.name.at,
@@ -102,8 +104,7 @@ pub fn arity(alloc: Global, names: &Names) -> Result<Option<u64>, AllocError>
     ensures { IfOk result (λ at. at ≡ least_of (arity_offsets names.now.declared.now)) }
 {
     let rule = Arities { names };
-    let declared = names.declared;
     let literals = least_in_literals(alloc, &rule, names)?;
-    let assertions = least_among(alloc, &rule, declared.assertions.as_slice())?;
+    let assertions = least_among(alloc, &rule, names.assertions())?;
     Ok(lesser(literals, assertions))
 }

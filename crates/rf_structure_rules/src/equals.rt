@@ -1,12 +1,12 @@
 //! Assertions of `equals` whose arguments aren't the same object named twice.
 
-ghost use Rattle.std.specs.Prelude.{◌≡◌, IfOk};
+ghost use Rattle.std.specs.Prelude.{◌≡◌, ◌&&◌, IfOk, not};
 ghost use Rattle.std.specs.Str.{bytes_eq};
 ghost use Rattle.rf_names.specs.Declarations.{object_name};
-ghost use Rattle.rf_names.specs.Offsets.{least_of};
-ghost use Rattle.rf_structure_rules.specs.StructureOffsets.{equals_two, equals_two_offsets, is_equals, is_same_name, is_same_object, is_twice};
+ghost use Rattle.rf_names.specs.Offsets.{least_of, offset_if};
+ghost use Rattle.rf_structure_rules.specs.StructureOffsets.{equals_two_offsets, is_equals, is_same_name, is_same_object, is_twice};
 
-use rf_names::{AssertDeclaration, Names, OffsetRule, Sense, least_among, object_name, offset_if};
+use rf_names::{Names, OffsetRule, Sense, SensedAssertion, least_among, object_name, offset_if};
 use rf_problem::Symbol;
 use rf_syntax::{Arg, SymbolName};
 use std::alloc::{AllocError, Global};
@@ -15,27 +15,27 @@ use std::alloc::{AllocError, Global};
 pub fn equals_two(alloc: Global, names: &Names<'_>) -> Result<Option<u64>, AllocError>
     ensures { IfOk result (λ at. at ≡ least_of (equals_two_offsets names.now.declared.now)) }
 {
-    let declared = names.declared;
-    least_among(alloc, &EqualsTwo { names }, declared.assertions.as_slice())
+    let at = least_among(alloc, &EqualsTwo {}, names.assertions())?;
+    Ok(at)
 }
 
 // The rule of the arguments of `equals`.
 #[derive(Clone, Copy)]
-struct EqualsTwo<'n, 'a> {
-    names: &'n Names<'a>,
-}
+struct EqualsTwo {}
 
-impl<'n, 'a> OffsetRule<AssertDeclaration<'a>> for EqualsTwo<'n, 'a> {
-    ghost offsets = { λ rule. equals_two rule.names.now.declared.now };
+impl<'a> OffsetRule<SensedAssertion<'a>> for EqualsTwo {
+    ghost offsets = { λ rule a.
+        offset_if (is_equals a.sense && not (is_twice a.form.atom.args)) a.form.atom.symbol.name.at };
 
     fn least_in(
         &self,
-        alloc: Global,
-        assertion: &AssertDeclaration<'a>,
+        _alloc: Global,
+        assertion: &SensedAssertion<'a>,
     ) -> Result<Option<u64>, AllocError> {
-        let sense = self.names.assertion_sense(alloc, &assertion.atom.symbol)?;
-        let broken = is_equals(sense) && !is_twice(assertion.atom.args.as_slice());
-        Ok(offset_if(broken, assertion.atom.symbol.name.at))
+        let form = assertion.form;
+        let atom = form.atom;
+        let broken = is_equals(assertion.sense) && !is_twice(atom.args.as_slice());
+        Ok(offset_if(broken, atom.symbol.name.at))
     }
 }
 

@@ -1,4 +1,5 @@
 use Rattle.std.proofs.Common.{arith}
+use Rattle.std.proofs.lemmas.Grind.{common_steps}
 use Rattle.rf_lexer.proofs.Sequences.{lexed_all, lexed_more, token_made}
 use Rattle.rf_lexer.proofs.lexing.tokens_of.Goals as goal
 
@@ -11,6 +12,7 @@ loop-rest-preserved c = record {
   utf8 = c.skip_gap-rest-in-loop-rest.utf8;
   bound = omega (arith, c.in_ok-kind.ensures.shorter);
   whole = c.loop-rest.invariant.whole;
+  few = grind (arith, common_steps, c.loop-rest.invariant.few, c.in_ok-kind.ensures.shorter, c.skip_gap-rest-in-loop-rest.ensures.bound, c.in_ok-push.ensures.items);
 }
 
 pub returns-clause-ok : goal.returns-clause-ok

@@ -1,4 +1,4 @@
-use Rattle.std.proofs.Common.{◌≡◌, ◌≤◌, length}
+use Rattle.std.proofs.Common.{◌≡◌, ◌+◌, ◌≤◌, length}
 use Rattle.std.specs.Str.{chars}
 use denote.Shadow.{shadow}
 use denote.Text.{Utf8}
@@ -13,6 +13,7 @@ invariant-loop-rest l = record {
   utf8 : shadow (Utf8 l.rest);
   bound : length l.rest ≤ length l.text;
   whole : l.end ≡ length l.text;
+  few : length l.tokens.items + length l.rest ≤ length l.text;
 }
 
 abbrev pub decreases-loop-rest : goal.decreases-loop-rest

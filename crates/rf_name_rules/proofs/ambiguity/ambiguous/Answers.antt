@@ -4,7 +4,7 @@ use Rattle.rf_names.specs.Declarations.{AssertDecl, Declared, PredicateDecl, Ref
 use Rattle.rf_names.specs.Offsets.{least_of, offsets_in_literals}
 use Rattle.rf_names.specs.LookUp.{assertion_symbols, sense_of}
 use Rattle.rf_name_rules.specs.NameOffsets.{ambiguous_literal, ambiguous_opposite, ambiguous_symbol}
-use Rattle.rf_name_rules.proofs.JoinedOffsets.{least_join}
+use Rattle.rf_names.proofs.LeastOffsets.{least_join, least_of_sensed}
 use Rattle.rf_name_rules.proofs.ambiguity.ambiguous.Goals as goal
 
 pub returns : goal.returns
@@ -21,4 +21,4 @@ returns c =
     ∙ least_join (references d.references) (literals d.predicates) c.in_ok-references.references c.in_ok-literals.literals
     (c.in_ok-references.ensures ∙ ap (λ rs. least_of (references rs)) (c.as_slice.ensures.value ∙ ap (λ (k : Declared). k.references) viewed))
     c.in_ok-literals.ensures)
-    (c.in_ok-assertions.ensures ∙ ap (λ xs. least_of (assertions xs)) (c.as_slice-2.ensures.value ∙ ap (λ (k : Declared). k.assertions) viewed))
+    (least_of_sensed d (λ a. ambiguous_symbol a.sense a.form.atom.symbol) c.assertions.result.now c.in_ok-assertions.assertions c.in_ok-assertions.ensures c.assertions.ensures)

@@ -3,8 +3,8 @@ use Rattle.std.specs.List.{flat_map}
 use Rattle.rf_names.specs.Declarations.{AssertDecl, ClassDecl, Declared, PredicateDecl, ReferenceDecl}
 use Rattle.rf_syntax.specs.declared.statement.Bound.{Bound}
 use Rattle.rf_names.specs.Offsets.{least_of, offsets_in_literals}
-use Rattle.rf_name_rules.specs.NameOffsets.{unknown_assertion, unknown_bound, unknown_literal, unknown_param_class, unknown_reference, unknown_super}
-use Rattle.rf_name_rules.proofs.JoinedOffsets.{least_join}
+use Rattle.rf_name_rules.specs.NameOffsets.{unknown_arg, unknown_assertion, unknown_bound, unknown_literal, unknown_param_class, unknown_reference, unknown_super, unknown_symbol}
+use Rattle.rf_names.proofs.LeastOffsets.{least_join, least_of_sensed}
 use Rattle.rf_name_rules.proofs.unknowns.unknown.Goals as goal
 
 pub returns : goal.returns
@@ -37,4 +37,5 @@ returns c =
     (c.in_ok-predicates.ensures ∙ ap (λ ps. least_of (params ps)) (c.as_slice-3.ensures.value ∙ ap (λ (k : Declared). k.predicates) viewed)))
     (c.in_ok-bounds.ensures ∙ ap (λ bs. least_of (bounds bs)) (ap (map (λ (b : Bor Bound). b.now)) c.as_slice-4.ensures.value ∙ ap (λ (k : Declared). k.bounds) viewed)))
     c.in_ok-literals.ensures)
-    (c.in_ok-assertions.ensures ∙ ap (λ xs. least_of (assertions xs)) (c.as_slice-5.ensures.value ∙ ap (λ (k : Declared). k.assertions) viewed))
+    (least_of_sensed d (λ a. unknown_symbol d a.sense a.form.atom.symbol.name a.form.atom.symbol.member ++ flat_map (unknown_arg d) a.form.atom.args)
+    c.assertions.result.now c.in_ok-assertions.assertions c.in_ok-assertions.ensures c.assertions.ensures)

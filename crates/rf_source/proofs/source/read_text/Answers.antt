@@ -11,8 +11,8 @@ use Rattle.rf_source.proofs.ReadableLemmas.{IsReadable-tokens}
 use Rattle.rf_source.proofs.StageLemmas.{Answers-lexical, Answers-tokens}
 use Rattle.rf_source.proofs.source.read_text.Goals as goal
 
-pub read_tokens-requires : goal.read_tokens-requires
-read_tokens-requires c =
+pub read_tokens-requires-clause-read : goal.read_tokens-requires-clause-read
+read_tokens-requires-clause-read c =
     subst (λ (tokens : List Token). All IsReadable (token_kinds tokens)) (sym c.as_slice.ensures.value)
     (IsReadable-tokens (length c.args.text.now) c.in-Ok.tokens.items (chars c.args.text.now) [] c.in-Ok.ensures.answers.ok)
 

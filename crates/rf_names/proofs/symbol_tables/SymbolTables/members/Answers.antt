@@ -2,7 +2,7 @@
 use Rattle.std.proofs.Common.{◌≡◌, arith, length}
 use Rattle.std.proofs.lemmas.Grind.{common_steps}
 use Rattle.rf_names.proofs.NamedLemmas.{inherited_taken, own_taken}
-use Rattle.rf_names.proofs.names.Names.members.Goals as goal
+use Rattle.rf_names.proofs.symbol_tables.SymbolTables.members.Goals as goal
 
 pub returns-then-not-is_empty : goal.returns-then-not-is_empty
 returns-then-not-is_empty c =

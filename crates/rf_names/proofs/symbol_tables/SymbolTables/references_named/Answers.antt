@@ -1,6 +1,6 @@
 use Rattle.std.proofs.Common.{◌∙◌}
 use Rattle.rf_names.proofs.NamedLemmas.{references_found}
-use Rattle.rf_names.proofs.names.Names.references_named.Goals as goal
+use Rattle.rf_names.proofs.symbol_tables.SymbolTables.references_named.Goals as goal
 
 pub returns : goal.returns
 returns c =

@@ -1,6 +1,6 @@
 use Rattle.std.proofs.Common.{None, Some}
 use Rattle.rf_names.proofs.NamedLemmas.{predicate_found}
-use Rattle.rf_names.proofs.names.Names.predicate_named.Goals as goal
+use Rattle.rf_names.proofs.symbol_tables.SymbolTables.predicate_named.Goals as goal
 
 pub returns-in-None : goal.returns-in-None
 returns-in-None c = predicate_found c.args.self.now.declared.now _ c.args.text.now None c.args.self.now.of_predicates c.in-None.ensures
