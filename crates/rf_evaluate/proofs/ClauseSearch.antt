@@ -1,12 +1,9 @@
--- The search for a tuple, begun for a clause, and clause by clause.
-use Rattle.std.proofs.Common.{◌≡◌, ℕ, zero, suc, ◌+◌, ◌-◌, ◌<◌, ◌≤◌, max, Bool, true, false, ◌&&◌, Option, Some, None, List, [], ◌∷◌, ◌⊎◌, length, take, get_or, nat_cmp, refl, sym, ap, ap₂, ◌∙◌, subst, inl, inr, arith, true≢false, slice_get, slice_index, slice_index_or, nat_le, nat_lt, lt-ltb, le-leb, eqb-true, ◌==◌}
-use Rattle.std.specs.Cmp.Lexicographic.{slice_cmp}
+-- The search for tuples, begun for a clause, and clause by clause.
+use Rattle.std.proofs.Common.{◌≡◌, ℕ, zero, suc, ◌+◌, ◌-◌, ◌<◌, ◌≤◌, max, Bool, true, false, ◌&&◌, Option, Some, None, List, [], ◌∷◌, ◌⊎◌, length, take, get_or, refl, sym, ap, ap₂, ◌∙◌, subst, inl, inr, arith, true≢false, slice_get, slice_index, slice_index_or, nat_le, nat_lt, lt-ltb, le-leb, eqb-true, ◌==◌}
 use Rattle.std.specs.List.{list_all}
 use Rattle.std.proofs.lemmas.Bool.{and_parts, cases_lt, false_from_ne_true, leb-true}
-use Rattle.std.proofs.lemmas.Cmp.{nat_list_cmp_total}
 use Rattle.std.proofs.lemmas.List.{get_or_past}
-use Rattle.rf_finite.specs.Firsts.{IsFirstOf}
-use Rattle.rf_finite.proofs.Firsts.{IsFirstOf-same}
+use Rattle.std.proofs.lemmas.Option.{same_Some}
 use Rattle.rf_values.specs.Truth.{may, must}
 use Rattle.rf_values.specs.declared.truth.Truth.TheVariants.{True}
 use Rattle.rf_problem.specs.Parts.{predicate_at}
@@ -15,14 +12,14 @@ use Rattle.rf_problem.specs.Valid.{is_free}
 use Rattle.rf_problem.specs.declared.predicate.Clause.{Clause}
 use Rattle.rf_problem.proofs.Depth.{call_rank-below}
 use Rattle.rf_evaluate.specs.Evaluating.{IsSoundClause, call_rank, calls_of, clause_value, completed_value}
-use Rattle.rf_evaluate.specs.Hunts.{GoesOn, IsFirstOfBoth, IsFoundAmong, IsFoundAt, IsOfArity, IsPlaced, IsReached, with_tuple}
+use Rattle.rf_evaluate.specs.Gathering.{Column, HasGathered, tells}
+use Rattle.rf_evaluate.specs.Hunts.{GoesOn, IsFoundAmong, IsFoundAt, IsMet, IsPlaced, IsReached, with_tuple}
 use Rattle.rf_evaluate.specs.Known.{Known, side}
-use Rattle.rf_evaluate.specs.Search.{IsFound}
 use Rattle.rf_evaluate.specs.declared.stage.Body.{Body}
 use Rattle.rf_evaluate.specs.declared.stage.Stage.{Stage}
-use Rattle.rf_evaluate.proofs.BothFirsts.{IsFirstOf-then, property-from_IsFirstOf, same-from_Some}
+use Rattle.rf_evaluate.proofs.Gathered.{gathered-none, gathered-same, gathered-then}
 use Rattle.rf_evaluate.proofs.Completing.{clause-completed}
-use Rattle.rf_evaluate.proofs.Conjunctions.{conjunction-True, each-from_list_any, one-from_list_any}
+use Rattle.rf_evaluate.proofs.Conjunctions.{conjunction-True, list_any-from_one, one-from_list_any}
 use Rattle.rf_evaluate.proofs.EvaluationSymbols.{IsSoundClause-from_problem, slice_get-below, value_of-clauses}
 use Rattle.rf_evaluate.proofs.Reached.{IsFull}
 use Rattle.rf_evaluate.proofs.TupleStages.{first-assigned, first-element, later-assigned, later-element, length-unassigned}
@@ -103,71 +100,65 @@ module _ (k : Known) (b : Body) (passes : List ℕ → Bool) (arity : ℕ) (s : 
       ]
 
   -- what is reached from such a stage is what is found at the clause
-  pub first-clause : (best o : Option (List ℕ)) → IsFirstOfBoth (slice_cmp nat_cmp) best (IsReached k b passes arity s True) o → IsFirstOfBoth (slice_cmp nat_cmp) best (IsFoundAt k passes arity c) o
-  first-clause best o h =
+  pub gathered-clause : {G : Type 0} (has covers : G → List ℕ → Column → Type 0) (a z : G) → HasGathered has covers (IsReached k b passes arity s True) a z
+      → HasGathered has covers (IsFoundAt k passes arity c) a z
+  gathered-clause has covers a z h =
       let same = λ (t : List ℕ) (len : length t ≡ arity). conjunction-True (completed_value k b (with_tuple s t)) ∙ sym (clause-at t len) in
-      IsFirstOf-same (slice_cmp nat_cmp) (λ t. (best ≡ Some t) ⊎ IsReached k b passes arity s True t) (λ t. (best ≡ Some t) ⊎ IsFoundAt k passes arity c t) o
-      (λ t d. elim d [ inl e ↦ inl e | inr r ↦ inr (record { tuple = r.tuple; passed = r.passed; possible = λ f. r.possible (same t r.tuple.many ∙ f) }) ])
-      (λ t d. elim d [
-        | inl e ↦ inl e
-        | inr r ↦ inr (record { tuple = r.tuple; passed = r.passed; goes_on = GoesOn-begun t r.tuple.many; possible = λ f. r.possible (sym (same t r.tuple.many) ∙ f) })
-      ])
+      gathered-same has covers (IsReached k b passes arity s True) (IsFoundAt k passes arity c) a z
+      (λ t d r. record { tuple = r.tuple; passed = r.passed; told = sym (ap (tells d) (same t r.tuple.many)) ∙ r.told })
+      (λ t d r. record { tuple = r.tuple; passed = r.passed; goes_on = GoesOn-begun t r.tuple.many; told = ap (tells d) (same t r.tuple.many) ∙ r.told })
       h
 
-module _ (k : Known) (passes : List ℕ → Bool) (arity : ℕ) (clauses : List Clause) where
-  -- no clause was searched yet
-  pub first-no_clause : IsFirstOf (slice_cmp nat_cmp) (IsFoundAmong k passes arity clauses 0) None
-  first-no_clause = λ t r. let l : r.place < 0 = r.before in absurd (omega (arith, l))
+module _ {G : Type 0} (has covers : G → List ℕ → Column → Type 0) (k : Known) (passes : List ℕ → Bool) (a : G) where
+  module _ (arity : ℕ) (clauses : List Clause) where
+    -- no clause was searched yet
+    pub gathered-no_clause : HasGathered has covers (IsFoundAmong k passes arity clauses 0) a a
+    gathered-no_clause = gathered-none has covers (IsFoundAmong k passes arity clauses 0) a (λ t c r. let l : r.place < 0 = r.before in absurd (omega (arith, l)))
 
-  -- one more was
-  pub first-more_clauses : (n : ℕ) (c : Clause) (first o : Option (List ℕ)) → slice_get clauses n ≡ Some c → IsFirstOf (slice_cmp nat_cmp) (IsFoundAmong k passes arity clauses n) first
-      → IsFirstOfBoth (slice_cmp nat_cmp) first (IsFoundAt k passes arity c) o → IsFirstOf (slice_cmp nat_cmp) (IsFoundAmong k passes arity clauses (n + 1)) o
-  first-more_clauses n c first o there h g =
-      IsFirstOf-same (slice_cmp nat_cmp) (λ t. IsFoundAmong k passes arity clauses n t ⊎ IsFoundAt k passes arity c t) (IsFoundAmong k passes arity clauses (n + 1)) o
-      (λ t d. elim d [
-        | inl r ↦ (let l : r.place < n = r.before in record { place = r.place; clause = r.clause; before = omega (arith, l); there = r.there; found = r.found })
-        | inr r ↦ record { place = n; clause = c; before = omega arith; there = there; found = r }
-      ])
-      (λ t r. elim (cases_lt r.place n) [
-        | inl l ↦ inl (record { place = r.place; clause = r.clause; before = l; there = r.there; found = r.found })
-        | inr m ↦ (let l : r.place < n + 1 = r.before in let e : r.place ≡ n = omega (arith, l) in
-            let same : r.clause ≡ c = same-from_Some r.clause c (sym r.there ∙ (ap (slice_get clauses) e ∙ there)) in
-            inr (subst (λ (d : Clause). IsFoundAt k passes arity d t) same r.found))
-      ])
-      (IsFirstOf-then (slice_cmp nat_cmp) nat_list_cmp_total (IsFoundAmong k passes arity clauses n) (IsFoundAt k passes arity c) first o h g)
+    -- one more was
+    pub gathered-more_clauses : (n : ℕ) (c : Clause) (y z : G) → slice_get clauses n ≡ Some c → HasGathered has covers (IsFoundAmong k passes arity clauses n) a y
+        → HasGathered has covers (IsFoundAt k passes arity c) y z → HasGathered has covers (IsFoundAmong k passes arity clauses (n + 1)) a z
+    gathered-more_clauses n c y z there h g =
+        gathered-same has covers (λ t d. IsFoundAmong k passes arity clauses n t d ⊎ IsFoundAt k passes arity c t d) (IsFoundAmong k passes arity clauses (n + 1)) a z
+        (λ t d either. elim either [
+          | inl r ↦ (let l : r.place < n = r.before in record { place = r.place; clause = r.clause; before = omega (arith, l); there = r.there; found = r.found })
+          | inr r ↦ record { place = n; clause = c; before = omega arith; there = there; found = r }
+        ])
+        (λ t d r. elim (cases_lt r.place n) [
+          | inl l ↦ inl (record { place = r.place; clause = r.clause; before = l; there = r.there; found = r.found })
+          | inr m ↦ (let l : r.place < n + 1 = r.before in let e : r.place ≡ n = omega (arith, l) in
+              let same : r.clause ≡ c = same_Some r.clause c (sym r.there ∙ (ap (slice_get clauses) e ∙ there)) in
+              inr (subst (λ (x : Clause). IsFoundAt k passes arity x t d) same r.found))
+        ])
+        (gathered-then has covers (IsFoundAmong k passes arity clauses n) (IsFoundAt k passes arity c) a y z h g)
 
-  -- what is found is of as many elements
-  pub IsOfArity-found : (n : ℕ) (o : Option (List ℕ)) → IsFirstOf (slice_cmp nat_cmp) (IsFoundAmong k passes arity clauses n) o → IsOfArity arity o
-  IsOfArity-found n o h = property-from_IsFirstOf (slice_cmp nat_cmp) nat_list_cmp_total (IsFoundAmong k passes arity clauses n) (λ t. length t ≡ arity) o h
-      (λ t r. r.found.tuple.many)
+  gathered-met_at : (q n : ℕ) (z : G) → length (predicate_at k.problem.predicates q).clauses ≤ n
+      → HasGathered has covers (IsFoundAmong k passes (predicate_at k.problem.predicates q).arity (predicate_at k.problem.predicates q).clauses n) a z
+      → HasGathered has covers (IsMet k q passes) a z
+  gathered-met_at q n z all h =
+      let arity = (predicate_at k.problem.predicates q).arity in
+      let clauses = (predicate_at k.problem.predicates q).clauses in
+      let holds = λ (t : List ℕ). clause_true (calls_of k) (side must k) (side may k) arity t in
+      let can = λ (t : List ℕ). clause_true (calls_of k) (side may k) (side must k) arity t in
+      gathered-same has covers (IsFoundAmong k passes arity clauses n) (IsMet k q passes) a z
+      (λ t c r. record {
+        tuple = r.found.tuple;
+        passed = r.found.passed;
+        told = ap (tells c) (value_of-clauses k q t) ∙ list_any-from_one c (holds t) (can t) clauses r.place r.clause r.there r.found.told;
+      })
+      (λ t c r. let one = one-from_list_any c (holds t) (can t) clauses (sym (ap (tells c) (value_of-clauses k q t)) ∙ r.told) in
+      let l : one.0 < length clauses = slice_get-below clauses one.0 one.1 one.2 in
+      record { place = one.0; clause = one.1; before = omega (arith, l, all); there = one.2; found = record { tuple = r.tuple; passed = r.passed; told = one.3 } })
+      h
 
-first-found_at : (k : Known) (q : ℕ) (passes : List ℕ → Bool) (n : ℕ) (o : Option (List ℕ)) → length (predicate_at k.problem.predicates q).clauses ≤ n
-    → IsFirstOf (slice_cmp nat_cmp) (IsFoundAmong k passes (predicate_at k.problem.predicates q).arity (predicate_at k.problem.predicates q).clauses n) o
-    → IsFirstOf (slice_cmp nat_cmp) (IsFound k q passes) o
-first-found_at k q passes n o all h =
-    let arity = (predicate_at k.problem.predicates q).arity in
-    let clauses = (predicate_at k.problem.predicates q).clauses in
-    let holds = λ (t : List ℕ). clause_true (calls_of k) (side must k) (side may k) arity t in
-    let can = λ (t : List ℕ). clause_true (calls_of k) (side may k) (side must k) arity t in
-    IsFirstOf-same (slice_cmp nat_cmp) (IsFoundAmong k passes arity clauses n) (IsFound k q passes) o
-    (λ t r. record {
-      tuple = r.found.tuple;
-      passed = r.found.passed;
-      value = λ f. r.found.possible (each-from_list_any (holds t) (can t) clauses r.place r.clause r.there (sym (value_of-clauses k q t) ∙ f));
-    })
-    (λ t r. let one = one-from_list_any (holds t) (can t) clauses (λ f. r.value (value_of-clauses k q t ∙ f)) in
-    let l : one.0 < length clauses = slice_get-below clauses one.0 one.1 one.2 in
-    record { place = one.0; clause = one.1; before = omega (arith, l, all); there = one.2; found = record { tuple = r.tuple; passed = r.passed; possible = one.3 } })
-    h
-
--- what is found among all clauses of a predicate is found
-pub first-found : (k : Known) (q : ℕ) (passes : List ℕ → Bool) (n arity : ℕ) (clauses : List Clause) (o : Option (List ℕ)) → arity ≡ (predicate_at k.problem.predicates q).arity
-    → clauses ≡ (predicate_at k.problem.predicates q).clauses → length clauses ≤ n
-    → IsFirstOf (slice_cmp nat_cmp) (IsFoundAmong k passes arity clauses n) o → IsFirstOf (slice_cmp nat_cmp) (IsFound k q passes) o
-first-found k q passes n arity clauses o many same all h =
-    first-found_at k q passes n o (subst (λ (cs : List Clause). length cs ≤ n) same all)
-    (subst (λ (a : ℕ). IsFirstOf (slice_cmp nat_cmp) (IsFoundAmong k passes a (predicate_at k.problem.predicates q).clauses n) o) many
-    (subst (λ (cs : List Clause). IsFirstOf (slice_cmp nat_cmp) (IsFoundAmong k passes arity cs n) o) same h))
+  -- what is found among all clauses of a predicate is met
+  pub gathered-met : (q n arity : ℕ) (clauses : List Clause) (z : G) → arity ≡ (predicate_at k.problem.predicates q).arity
+      → clauses ≡ (predicate_at k.problem.predicates q).clauses → length clauses ≤ n
+      → HasGathered has covers (IsFoundAmong k passes arity clauses n) a z → HasGathered has covers (IsMet k q passes) a z
+  gathered-met q n arity clauses z many same all h =
+      gathered-met_at q n z (subst (λ (cs : List Clause). length cs ≤ n) same all)
+      (subst (λ (m : ℕ). HasGathered has covers (IsFoundAmong k passes m (predicate_at k.problem.predicates q).clauses n) a z) many
+      (subst (λ (cs : List Clause). HasGathered has covers (IsFoundAmong k passes arity cs n) a z) same h))
 
 -- a clause of a predicate is well formed
 pub sound-clause : (k : Known) (q : ℕ) (clauses : List Clause) (i : ℕ) (c : Clause) → q < length k.problem.predicates → clauses ≡ (predicate_at k.problem.predicates q).clauses

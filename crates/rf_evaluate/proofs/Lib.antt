@@ -1,10 +1,9 @@
 pub mod Completing
-pub mod BothFirsts
+pub mod Gathered
 pub mod Conjunctions
 pub mod Independence
 pub mod TupleStages
 pub mod Reached
-pub mod Remaining
 pub mod Searching
 pub mod Candidates
 pub mod InBoth
@@ -21,3 +20,4 @@ pub mod EvaluationStages
 pub mod StepLemmas
 pub mod WalkLemmas
 pub mod ClauseSearch
+pub mod FoundValues

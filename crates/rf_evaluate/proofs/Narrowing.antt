@@ -1,5 +1,5 @@
 -- Elements outside of which a literal is false.
-use Rattle.std.proofs.Common.{◌≡◌, ℕ, ◌<◌, Bool, true, false, ◌&&◌, ◌||◌, ◌==◌, Option, None, Some, List, [], ◌∷◌, set, refl, sym, ap, ap₂, ◌∙◌, subst, inl, inr, get_or-set_same, get_or-set_other}
+use Rattle.std.proofs.Common.{◌≡◌, ℕ, ◌<◌, Bool, true, false, ◌&&◌, ◌||◌, ◌==◌, Option, None, Some, List, [], ◌∷◌, length, set, arith, refl, sym, ap, ap₂, ◌∙◌, subst, inl, inr, get_or-set_same, get_or-set_other}
 use Rattle.std.specs.List.{list_any}
 use Rattle.std.specs.Prelude.{IfSome, slice_get, slice_index, slice_index_or}
 use Rattle.std.proofs.lemmas.Bool.{both_ways, cases_Bool, eq-eqb, eqb-true, or_from}
@@ -157,6 +157,13 @@ pub Narrows-found : (k : Known) (s : Stage) (l : Literal) (v : ℕ) (elements : 
 Narrows-found k s l v elements None is are narrows = is
 Narrows-found k s l v elements (Some next) is are narrows =
     subst (λ (e : Elements). Narrows k s l next.variable e) (sym are) (subst (λ (u : ℕ). Narrows k s l u elements) (sym is) narrows)
+
+-- a list of two terms
+pub two_terms : (args : List Term) → length args ≡ 2 → slice_index_or args 0 (Var 0) ∷ slice_index_or args 1 (Var 0) ∷ [] ≡ args
+two_terms [] e = absurd (omega (arith, e))
+two_terms (a ∷ []) e = absurd (omega (arith, e))
+two_terms (a ∷ b ∷ []) e = refl
+two_terms (a ∷ b ∷ c ∷ args) e = absurd (omega (arith, e))
 
 pub AreCandidates-found : (k : Known) (b : Body) (s : Stage) (i : ℕ) (l : Literal) (found : Option Next) → slice_get b.literals.now i ≡ Some l
     → slice_index_or s.pending i false ≡ true → IfSome found (λ next. Narrows k s (standing b.is_inner l) next.variable next.elements)

@@ -1,6 +1,5 @@
 -- Which tuples are reached from a stage, and from the stages after it.
-use Rattle.std.proofs.Common.{◌≡◌, ◌≢◌, ℕ, ◌<◌, ◌≤◌, Bool, true, false, if◌then◌else◌, Option, Some, None, List, [], ◌∷◌, length, set, take, get_or, get_or-set_same, get_or-set_other, get_or-take, length-take-le, nat_cmp, refl, sym, ap, ap₂, ◌∙◌, subst, inl, inr, arith, true≢false, slice_index, slice_index_or, slice_get, Less, lt-ltb, le-ltb}
-use Rattle.std.specs.Cmp.Lexicographic.{slice_cmp}
+use Rattle.std.proofs.Common.{◌≡◌, ℕ, ◌<◌, ◌≤◌, Bool, true, false, if◌then◌else◌, Some, List, length, set, take, get_or, get_or-set_same, get_or-set_other, get_or-take, length-take-le, refl, sym, ap, ap₂, ◌∙◌, subst, inl, inr, arith, true≢false, slice_index, slice_index_or, slice_get, lt-ltb, le-ltb}
 use Rattle.std.proofs.lemmas.Bool.{cases_Bool, cases_lt, cases_order}
 use Rattle.std.proofs.lemmas.Grind.{same_number_lists}
 use Rattle.std.proofs.lemmas.List.Elements.{All-get_or, All-from_get_or}
@@ -11,15 +10,15 @@ use Rattle.rf_problem.specs.declared.predicate.Literal.{Literal}
 use Rattle.rf_evaluate.specs.Elements.{count, element_at, includes}
 use Rattle.rf_evaluate.specs.declared.elements.Elements.{Elements}
 use Rattle.rf_evaluate.specs.Evaluating.{AreCandidates, IsRefuted, completed_value, completed_with, literal_value, some_truth, with_element, without_literal}
-use Rattle.rf_evaluate.specs.Hunts.{AreClosed, GoesOn, IsOfArity, IsPast, IsPlaced, IsReached, IsReachedWith, value_with, with_tuple}
+use Rattle.rf_evaluate.specs.Gathering.{Column, tells}
+use Rattle.rf_evaluate.specs.Hunts.{AreClosed, GoesOn, IsPlaced, IsReached, IsReachedWith, value_with, with_tuple}
 use Rattle.rf_evaluate.specs.Known.{Known}
 use Rattle.rf_evaluate.specs.Terms.{names_unassigned}
 use Rattle.rf_evaluate.specs.declared.stage.Body.{Body}
 use Rattle.rf_evaluate.specs.declared.stage.Stage.{Stage}
-use Rattle.rf_evaluate.proofs.BothFirsts.{Less-ne_Greater, not_before-greater, same-from_Some}
 use Rattle.rf_evaluate.proofs.Candidates.{element_at-below, number-of}
 use Rattle.rf_evaluate.proofs.Completing.{completed-chosen, completed-evaluated, marked-within}
-use Rattle.rf_evaluate.proofs.Conjunctions.{conjunction-assoc, each-from_some_truth, one-from_some_truth}
+use Rattle.rf_evaluate.proofs.Conjunctions.{conjunction-assoc, one-from_some_truth, some_truth-from_one, tells-ne_False}
 use Rattle.rf_evaluate.proofs.InBoth.{conjunction-False}
 use Rattle.rf_evaluate.proofs.Independence.{literal_value-agreeing, names_unassigned-fewer}
 use Rattle.rf_evaluate.proofs.TupleStages.{assigned-same, assigned-still, later-assigned, length-elements, length-unassigned, with_tuple-first, with_tuple-later, with_tuple-same}
@@ -62,23 +61,23 @@ module _ (k : Known) (b : Body) (passes : List ℕ → Bool) (arity : ℕ) where
       (literal_value-agreeing k b i l s.unassigned (slice_index (with_tuple s t).elements) (slice_index s.elements) (assigned-same s t on) ground)
 
   -- what is reached before the evaluation of a literal is reached after it
-  pub IsReached-without : (s : Stage) (i : ℕ) (l : Literal) (value own : Truth) (t : List ℕ) → slice_index_or s.pending i false ≡ true → slice_get b.literals.now i ≡ Some l
+  pub IsReached-without : (s : Stage) (i : ℕ) (l : Literal) (value own : Truth) (t : List ℕ) (c : Column) → slice_index_or s.pending i false ≡ true → slice_get b.literals.now i ≡ Some l
       → names_unassigned s.unassigned l ≡ false → own ≡ literal_value k b i l (slice_index s.elements)
-      → IsReached k b passes arity s value t → IsReached k b passes arity (without_literal s i) (conjunction value own) t
-  IsReached-without s i l value own t pending there ground is h =
+      → IsReached k b passes arity s value t c → IsReached k b passes arity (without_literal s i) (conjunction value own) t c
+  IsReached-without s i l value own t c pending there ground is h =
       let rest = completed_value k b (with_tuple (without_literal s i) t) in
       let e = ap (conjunction value) (value-evaluated s i l t pending there ground h.goes_on) ∙ (conjunction-assoc value (literal_value k b i l (slice_index s.elements)) rest
       ∙ ap (λ (y : Truth). conjunction (conjunction value y) rest) (sym is)) in
-      record { tuple = h.tuple; passed = h.passed; goes_on = h.goes_on; possible = λ f. h.possible (e ∙ f) }
+      record { tuple = h.tuple; passed = h.passed; goes_on = h.goes_on; told = sym (ap (tells c) e) ∙ h.told }
 
-  pub IsReached-before : (s : Stage) (i : ℕ) (l : Literal) (value own : Truth) (t : List ℕ) → slice_index_or s.pending i false ≡ true → slice_get b.literals.now i ≡ Some l
+  pub IsReached-before : (s : Stage) (i : ℕ) (l : Literal) (value own : Truth) (t : List ℕ) (c : Column) → slice_index_or s.pending i false ≡ true → slice_get b.literals.now i ≡ Some l
       → names_unassigned s.unassigned l ≡ false → own ≡ literal_value k b i l (slice_index s.elements)
-      → IsReached k b passes arity (without_literal s i) (conjunction value own) t → IsReached k b passes arity s value t
-  IsReached-before s i l value own t pending there ground is h =
+      → IsReached k b passes arity (without_literal s i) (conjunction value own) t c → IsReached k b passes arity s value t c
+  IsReached-before s i l value own t c pending there ground is h =
       let rest = completed_value k b (with_tuple (without_literal s i) t) in
       let e = ap (conjunction value) (value-evaluated s i l t pending there ground h.goes_on) ∙ (conjunction-assoc value (literal_value k b i l (slice_index s.elements)) rest
       ∙ ap (λ (y : Truth). conjunction (conjunction value y) rest) (sym is)) in
-      record { tuple = h.tuple; passed = h.passed; goes_on = h.goes_on; possible = λ f. h.possible (sym e ∙ f) }
+      record { tuple = h.tuple; passed = h.passed; goes_on = h.goes_on; told = ap (tells c) e ∙ h.told }
 
   refuted-value : (s : Stage) (t : List ℕ) → IsRefuted k b s → GoesOn s t → completed_value k b (with_tuple s t) ≡ False
   refuted-value s t r on = value-evaluated s r.place r.literal t r.pending r.there r.ground on
@@ -98,9 +97,9 @@ module _ (k : Known) (b : Body) (passes : List ℕ → Bool) (arity : ℕ) where
       ∙ ap₂ conjunction (sym (value_with-other k arity v value x g)) (ap (completed_value k b) (sym (with_tuple-later s t v x m)))
 
   -- what is reached is reached with some element for an unassigned variable
-  chosen : (s : Stage) (value : Truth) (v : ℕ) (t : List ℕ) → IsFull s → arity ≤ 4 → v < 8 → slice_index_or s.unassigned v false ≡ true
-      → IsReached k b passes arity s value t → (x : ℕ) × (x < k.size) × IsReached k b passes arity (with_element s v x) (value_with k arity v value x) t
-  chosen s value v t full few less open_at h = elim (cases_lt v arity) [
+  chosen : (s : Stage) (value : Truth) (v : ℕ) (t : List ℕ) (c : Column) → IsFull s → arity ≤ 4 → v < 8 → slice_index_or s.unassigned v false ≡ true
+      → IsReached k b passes arity s value t c → (x : ℕ) × (x < k.size) × IsReached k b passes arity (with_element s v x) (value_with k arity v value x) t c
+  chosen s value v t c full few less open_at h = elim (cases_lt v arity) [
     | inl l ↦ (let m : v < length t = omega (arith, h.tuple.many) in
         let x = slice_index t v in (
           x,
@@ -109,42 +108,42 @@ module _ (k : Known) (b : Body) (passes : List ℕ → Bool) (arity : ℕ) where
             tuple = h.tuple;
             passed = h.passed;
             goes_on = GoesOn-with s t v x full less h.goes_on (λ q. refl);
-            possible = λ f. h.possible (ap₂ conjunction (sym (value_with-parameter k arity v value x l)) (ap (completed_value k b) (sym (with_tuple-first s t v x m))) ∙ f);
+            told = ap (tells c) (ap₂ conjunction (value_with-parameter k arity v value x l) (ap (completed_value k b) (with_tuple-first s t v x m))) ∙ h.told;
           },
         ))
     | inr g ↦ (let m : length t ≤ v = omega (arith, h.tuple.many) in
-        let one = one-from_some_truth value k.size (completed_with k b (with_tuple s t) v)
-        (λ f. h.possible (ap (conjunction value) (chosen-value s t v full (omega (arith, h.tuple.many)) m open_at) ∙ f)) in (
+        let one = one-from_some_truth c value k.size (completed_with k b (with_tuple s t) v)
+        (sym (ap (λ (y : Truth). tells c (conjunction value y)) (chosen-value s t v full (omega (arith, h.tuple.many)) m open_at)) ∙ h.told) in (
           one.0,
           one.1,
           record {
             tuple = h.tuple;
             passed = h.passed;
             goes_on = GoesOn-with s t v one.0 full less h.goes_on (λ q. absurd (omega arith));
-            possible = λ f. one.2 (with-value s t v one.0 value g m ∙ f);
+            told = sym (ap (tells c) (with-value s t v one.0 value g m)) ∙ one.2;
           },
         ))
   ]
 
   -- and that is a candidate
-  pub IsReachedWith-from_IsReached : (s : Stage) (value : Truth) (v : ℕ) (elements : Elements) (t : List ℕ) → IsFull s → arity ≤ 4 → AreCandidates k b s v elements
-      → IsReached k b passes arity s value t → IsReachedWith k b passes arity s value v elements (count elements) t
-  IsReachedWith-from_IsReached s value v elements t full few candidates h =
-      let one = chosen s value v t full few candidates.variable candidates.unassigned h in
+  pub IsReachedWith-from_IsReached : (s : Stage) (value : Truth) (v : ℕ) (elements : Elements) (t : List ℕ) (c : Column) → IsFull s → arity ≤ 4 → AreCandidates k b s v elements
+      → IsReached k b passes arity s value t c → IsReachedWith k b passes arity s value v elements (count elements) t c
+  IsReachedWith-from_IsReached s value v elements t c full few candidates h =
+      let one = chosen s value v t c full few candidates.variable candidates.unassigned h in
       elim (cases_Bool (includes elements one.0)) [
         | inl is ↦ (let n = number-of elements one.0 is in record {
           number = n.0;
           before = n.1;
-          reached = subst (λ (x : ℕ). IsReached k b passes arity (with_element s v x) (value_with k arity v value x) t) (sym n.2) one.2;
+          reached = subst (λ (x : ℕ). IsReached k b passes arity (with_element s v x) (value_with k arity v value x) t c) (sym n.2) one.2;
         })
-        | inr isnt ↦ absurd (one.2.possible (ap (conjunction (value_with k arity v value one.0))
+        | inr isnt ↦ absurd (tells-ne_False c (conjunction (value_with k arity v value one.0) (completed_value k b (with_tuple (with_element s v one.0) t))) one.2.told (ap (conjunction (value_with k arity v value one.0))
             (refuted-value (with_element s v one.0) t (candidates.others one.0 one.1 isnt) one.2.goes_on) ∙ conjunction-False (value_with k arity v value one.0)))
       ]
 
   -- what is reached with an element is reached
-  pub IsReached-from_IsReachedWith : (s : Stage) (value : Truth) (v : ℕ) (elements : Elements) (n : ℕ) (t : List ℕ) → IsFull s → arity ≤ 4 → AreCandidates k b s v elements
-      → n ≤ count elements → IsReachedWith k b passes arity s value v elements n t → IsReached k b passes arity s value t
-  IsReached-from_IsReachedWith s value v elements n t full few candidates within r =
+  pub IsReached-from_IsReachedWith : (s : Stage) (value : Truth) (v : ℕ) (elements : Elements) (n : ℕ) (t : List ℕ) (c : Column) → IsFull s → arity ≤ 4 → AreCandidates k b s v elements
+      → n ≤ count elements → IsReachedWith k b passes arity s value v elements n t c → IsReached k b passes arity s value t c
+  IsReached-from_IsReachedWith s value v elements n t c full few candidates within r =
       let x = element_at elements r.number in
       let h = r.reached in
       let before : r.number < n = r.before in
@@ -153,18 +152,18 @@ module _ (k : Known) (b : Body) (passes : List ℕ → Bool) (arity : ℕ) where
         tuple = h.tuple;
         passed = h.passed;
         goes_on = GoesOn-without s t v x candidates.unassigned h.goes_on;
-        possible = elim (cases_lt v arity) [
+        told = elim (cases_lt v arity) [
           | inl l ↦ (let m : v < length t = omega (arith, h.tuple.many) in
-              λ f. h.possible (ap₂ conjunction (value_with-parameter k arity v value x l) (ap (completed_value k b) (with_tuple-first s t v x m)) ∙ f))
+              sym (ap (tells c) (ap₂ conjunction (value_with-parameter k arity v value x l) (ap (completed_value k b) (with_tuple-first s t v x m)))) ∙ h.told)
           | inr g ↦ (let m : length t ≤ v = omega (arith, h.tuple.many) in
-              λ f. h.possible (sym (with-value s t v x value g m) ∙ each-from_some_truth value k.size (completed_with k b (with_tuple s t) v) x below
-              (sym (ap (conjunction value) (chosen-value s t v full (omega (arith, h.tuple.many)) m candidates.unassigned)) ∙ f)))
+              ap (λ (y : Truth). tells c (conjunction value y)) (chosen-value s t v full (omega (arith, h.tuple.many)) m candidates.unassigned)
+              ∙ some_truth-from_one c value k.size (completed_with k b (with_tuple s t) v) x below (ap (tells c) (with-value s t v x value g m) ∙ h.told))
         ];
       }
 
   -- where all parameters are assigned, the tuple of their elements alone can be reached
-  pub tuple-closed : (s : Stage) (value : Truth) (t : List ℕ) → IsFull s → arity ≤ 4 → AreClosed arity s → IsReached k b passes arity s value t → t ≡ take arity s.elements
-  tuple-closed s value t full few closed h =
+  pub tuple-closed : (s : Stage) (value : Truth) (t : List ℕ) (c : Column) → IsFull s → arity ≤ 4 → AreClosed arity s → IsReached k b passes arity s value t c → t ≡ take arity s.elements
+  tuple-closed s value t c full few closed h =
       let len : length (take arity s.elements) ≡ arity = length-take-le arity s.elements (omega (arith, full.elements)) in
       same_number_lists t (take arity s.elements) (h.tuple.many ∙ sym len)
       (λ v l. let m : v < arity = omega (arith, h.tuple.many) in h.goes_on v l (closed v m) ∙ sym (get_or-take arity s.elements v 0 m))
@@ -173,14 +172,14 @@ module _ (k : Known) (b : Body) (passes : List ℕ → Bool) (arity : ℕ) where
   closed-value s t full few closed len on =
       with_tuple-same s t (omega (arith, len, full.elements)) (omega (arith, len, full.unassigned)) (λ v l. closed v (omega (arith, len))) on
 
-  pub possible-closed : (s : Stage) (value : Truth) (t : List ℕ) → IsFull s → arity ≤ 4 → AreClosed arity s → IsReached k b passes arity s value t
-      → conjunction value (completed_value k b s) ≢ False
-  possible-closed s value t full few closed h =
-      λ f. h.possible (ap (λ (r : Stage). conjunction value (completed_value k b r)) (closed-value s t full few closed h.tuple.many h.goes_on) ∙ f)
+  pub told-closed : (s : Stage) (value : Truth) (t : List ℕ) (c : Column) → IsFull s → arity ≤ 4 → AreClosed arity s → IsReached k b passes arity s value t c
+      → tells c (conjunction value (completed_value k b s)) ≡ true
+  told-closed s value t c full few closed h =
+      sym (ap (λ (r : Stage). tells c (conjunction value (completed_value k b r))) (closed-value s t full few closed h.tuple.many h.goes_on)) ∙ h.told
 
-  pub IsReached-closed : (s : Stage) (value : Truth) (t : List ℕ) → IsFull s → arity ≤ 4 → IsPlaced k arity s → AreClosed arity s → t ≡ take arity s.elements
-      → passes t ≡ true → conjunction value (completed_value k b s) ≢ False → IsReached k b passes arity s value t
-  IsReached-closed s value t full few placed closed same passed possible =
+  pub IsReached-closed : (s : Stage) (value : Truth) (t : List ℕ) (c : Column) → IsFull s → arity ≤ 4 → IsPlaced k arity s → AreClosed arity s → t ≡ take arity s.elements
+      → passes t ≡ true → tells c (conjunction value (completed_value k b s)) ≡ true → IsReached k b passes arity s value t c
+  IsReached-closed s value t c full few placed closed same passed told =
       let len : length t ≡ arity = ap length same ∙ length-take-le arity s.elements (omega (arith, full.elements)) in
       let each : (v : ℕ) → v < arity → slice_index t v ≡ slice_index s.elements v =
       λ v l. ap (λ (u : List ℕ). get_or u v 0) same ∙ get_or-take arity s.elements v 0 l in
@@ -193,20 +192,5 @@ module _ (k : Known) (b : Body) (passes : List ℕ → Bool) (arity : ℕ) where
         };
         passed = passed;
         goes_on = on;
-        possible = λ f. possible (ap (λ (r : Stage). conjunction value (completed_value k b r)) (sym (closed-value s t full few closed len on)) ∙ f);
+        told = ap (λ (r : Stage). tells c (conjunction value (completed_value k b r))) (closed-value s t full few closed len on) ∙ told;
       }
-
-  -- what goes on from a stage that is past the best doesn't come before it
-  not_before-first : (t u : List ℕ) → slice_index u 0 < slice_index t 0 → slice_cmp nat_cmp t u ≡ Less → ⊥
-  not_before-first [] u l e = absurd (omega arith)
-  not_before-first (x ∷ t) [] l e = Less-ne_Greater (sym e)
-  not_before-first (x ∷ t) (y ∷ u) l e = not_before-greater t u x y l e
-
-  pub not_before-past : (s : Stage) (value : Truth) (best : Option (List ℕ)) → IsOfArity arity best → IsPast best s → (x t : List ℕ) → best ≡ Some x
-      → IsReached k b passes arity s value t → slice_cmp nat_cmp t x ≡ Less → ⊥
-  not_before-past s value None many past x t e h less = past
-  not_before-past s value (Some u) many past x t e h less =
-      let len = many u refl in
-      let first : slice_index t 0 ≡ slice_index s.elements 0 = h.goes_on 0 (omega (arith, h.tuple.many, len, past.0)) past.1 in
-      not_before-first t x (subst (λ (w : List ℕ). slice_index w 0 < slice_index t 0) (same-from_Some u x e)
-      (subst (λ (y : ℕ). slice_index u 0 < y) (sym first) past.2)) less

@@ -19,12 +19,12 @@ use Rattle.rf_finite.proofs.Walks.{walk_below-same}
 use Rattle.rf_closure.specs.Along.{leads}
 use Rattle.rf_values.specs.Truth.{may, must, truth_of}
 use Rattle.rf_values.specs.declared.truth.Truth.{Truth}
-use Rattle.rf_problem.specs.Parts.{same_symbol}
+use Rattle.rf_problem.specs.Parts.{same_symbol, symbol_cmp}
 use Rattle.rf_problem.specs.Table.{is_key}
 use Rattle.rf_problem.proofs.KeyLemmas.{is_key-tied, same_symbol-same}
 use Rattle.rf_problem.specs.Reading.{Reading, predicate_true, symbol_true}
 use Rattle.rf_problem.specs.declared.symbol.Symbol.{Symbol}
-use Rattle.rf_evaluate.specs.Kept.{AreSearched, AreWalksOf, mark_of, side_or, symbol_cmp}
+use Rattle.rf_evaluate.specs.Kept.{AreSearched, AreWalksOf, mark_of, side_or}
 use Rattle.rf_evaluate.specs.Known.{Known, side, walk_of}
 use Rattle.rf_evaluate.specs.Steps.{IsOther, IsSameSide, IsSideOf, step_of}
 use Rattle.rf_evaluate.specs.declared.closures.Marks.{Marks}

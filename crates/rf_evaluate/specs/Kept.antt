@@ -2,14 +2,13 @@
 use Rattle.std.specs.Prelude.{◌≡◌, ◌<◌, ℕ, Bool, false, List, length, map, slice_index_or, Vec, Option, None, Some}
 use Rattle.std.specs.BTreeMap.{get}
 use Rattle.std.specs.declared.alloc.Global.{Global}
-use Rattle.std.specs.declared.cmp.Ordering.{Ordering}
 use Rattle.rf_finite.specs.Walks.{walk_below}
 use Rattle.rf_values.specs.Truth.{may, must, truth_of}
 use Rattle.rf_values.specs.declared.truth.Truth.{Truth}
 use Rattle.rf_closure.specs.Along.{leads}
 use Rattle.std.specs.Option.{is_some}
 use Rattle.std.specs.Ordering.{nat_cmp}
-use Rattle.rf_problem.specs.contracts.symbol.SymbolOrd.TheImpl as symbol_ord
+use Rattle.rf_problem.specs.Parts.{symbol_cmp}
 use Rattle.rf_problem.specs.declared.symbol.Symbol.{Symbol}
 use Rattle.rf_evaluate.specs.Known.{Known}
 use Rattle.rf_evaluate.specs.Steps.{IsSideOf}
@@ -17,10 +16,6 @@ use Rattle.rf_evaluate.specs.declared.closures.Closures.{Closures}
 use Rattle.rf_evaluate.specs.declared.closures.Marks.{Marks}
 use Rattle.rf_evaluate.specs.declared.closures.Walks.{Walks}
 use Rattle.rf_evaluate.specs.declared.steps.Side.{Side}
-
--- the order of symbols
-abbrev pub symbol_cmp : Symbol → Symbol → Ordering
-symbol_cmp = (symbol_ord.ghosts).cmp
 
 -- marks tell to which elements walks lead from element x along one side of the steps
 abbrev pub AreMarksOf : Side → ℕ → List Bool → Type 0

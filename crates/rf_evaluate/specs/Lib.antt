@@ -7,5 +7,6 @@ pub mod Search
 pub mod Terms
 pub mod Evaluating
 pub mod Steps
+pub mod Gathering
 pub mod Hunts
 pub mod Narrowing

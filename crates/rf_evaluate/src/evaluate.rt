@@ -28,8 +28,9 @@ use std::alloc::AllocError;
 
 /// The value of a symbol at a tuple of as many elements as it has arguments.
 ///
-/// Each fact is read at most once for each choice of elements for the variables that it is about. Walks
-/// are searched once from each element for which they are asked, and kept in `closures`. Where memory
+/// A literal is evaluated as soon as each variable that it names has its element. A variable gets the
+/// elements that are listed at one end of an edge that a literal asks for, where the other end has its
+/// element, or else all. Walks that were searched are kept in `closures`, up to a bound. Where memory
 /// runs out, the answer is an `AllocError`.
 pub fn value<K: Knowledge>(
     known: &K,

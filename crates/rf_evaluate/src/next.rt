@@ -1,6 +1,6 @@
 //! Which variable gets its element next, and which elements come into question for it.
 
-ghost use Rattle.std.specs.Prelude.{◌≡◌, ◌<◌, ◌∷◌, ℕ, IfSome, IsTrue, None, [], false, true, length, slice_index_or};
+ghost use Rattle.std.specs.Prelude.{◌≡◌, ◌<◌, ℕ, IfSome, IsTrue, None, false, true, length, slice_index_or};
 ghost use Rattle.rf_evaluate.specs.Evaluating.{AreCandidates, IsSoundBody, standing};
 ghost use Rattle.rf_evaluate.specs.Known.{declares};
 ghost use Rattle.rf_evaluate.specs.Narrowing.{AwaitsElement, IsAnchor, IsOnlyElement, Narrows, declares_called};
@@ -83,40 +83,21 @@ fn listed<'k>(variable: usize, elements: Elements<'k>) -> Option<Next<'k>>
     }
 }
 
-/// A variable below `end` to which an edge of a reference leads, where it is known from where.
-fn edge_to_variable<'k, K: Knowledge>(
-    known: &'k K,
+/// The variable below `end` that is one term, where it is to get its element, and the element that
+/// another term stands for, where it is known.
+fn ends<K: Knowledge>(
+    known: &K,
     stage: &Stage,
-    reference: u32,
-    a: Term,
-    b: Term,
+    variable: Term,
+    other: Term,
     end: usize,
-) -> Option<Next<'k>>
-    requires { reference < length (K.known known.now).problem.references }
-    ensures { IfSome result (λ next. Narrows (K.known known.now) stage.now
-        (Literal.Call false false (Symbol.Reference reference) (a ∷ b ∷ [])) next.variable next.elements) }
+) -> Option<(usize, u64)>
+    ensures variable { IfSome result (λ ends. AwaitsElement stage.now variable ends.0) }
+    ensures other { IfSome result (λ ends. IsAnchor (K.known known.now) stage.now other ends.1) }
 {
-    let v = unassigned_variable(stage, b, end)?;
-    let x = anchor(known, stage, a)?;
-    listed(v, known.ends_from(reference, x))
-}
-
-/// A variable below `end` from which an edge of a reference leads, where it is known where to.
-fn edge_from_variable<'k, K: Knowledge>(
-    known: &'k K,
-    stage: &Stage,
-    reference: u32,
-    a: Term,
-    b: Term,
-    end: usize,
-) -> Option<Next<'k>>
-    requires { reference < length (K.known known.now).problem.references }
-    ensures { IfSome result (λ next. Narrows (K.known known.now) stage.now
-        (Literal.Call false false (Symbol.Reference reference) (a ∷ b ∷ [])) next.variable next.elements) }
-{
-    let v = unassigned_variable(stage, a, end)?;
-    let y = anchor(known, stage, b)?;
-    listed(v, known.ends_into(reference, y))
+    let v = unassigned_variable(stage, variable, end)?;
+    let x = anchor(known, stage, other)?;
+    Some((v, x))
 }
 
 /// A variable below `end` at one end of an edge of a reference, whose other end is known.
@@ -134,11 +115,11 @@ fn along_edge<'k, K: Knowledge>(
     if args.len() != 2 {
         return None;
     }
-    let next = edge_to_variable(known, stage, reference, args[0], args[1], end);
-    if next.is_some() {
-        return next;
+    if let Some((v, x)) = ends(known, stage, args[1], args[0], end) {
+        return listed(v, known.ends_from(reference, x));
     }
-    edge_from_variable(known, stage, reference, args[0], args[1], end)
+    let (v, x) = ends(known, stage, args[0], args[1], end)?;
+    listed(v, known.ends_into(reference, x))
 }
 
 /// The same for a symbol, where it is a reference.

@@ -1,24 +1,26 @@
-//! The first tuple at which a predicate isn't known to be false and a test passes.
+//! The tuples at which a predicate isn't known to be false and a test passes.
 
-ghost use Rattle.std.specs.Prelude.{◌≡◌, ◌≢◌, ◌<◌, ◌≤◌, ◌↔◌, IfOk, IsTrue, None, length};
+ghost use Rattle.std.specs.Prelude.{◌≡◌, ◌<◌, ◌≤◌, ◌↔◌, ℕ, List, IfOk, OnOk, IsTrue, length};
 ghost use Rattle.std.specs.Cmp.Lexicographic.{slice_cmp};
 ghost use Rattle.std.specs.Ordering.{nat_cmp};
-ghost use Rattle.rf_finite.specs.Firsts.{IsFirstOf, earlier};
+ghost use Rattle.rf_finite.specs.Firsts.{IsFirstOf};
 ghost use Rattle.rf_problem.specs.Valid.{FitsClause};
 ghost use Rattle.rf_evaluate.specs.Evaluating.{IsSoundBody, IsSoundClause};
-ghost use Rattle.rf_evaluate.specs.Hunts.{AreClosed, IsFirstOfBoth, IsFoundAt, IsOfArity, IsPast, IsPlaced, IsReached, value_with};
+ghost use Rattle.rf_evaluate.specs.Gathering.{Column, HasGathered};
+ghost use Rattle.rf_evaluate.specs.Hunts.{AreClosed, GoesOn, IsFoundAt, IsMet, IsPlaced, IsReached, value_with};
 ghost use Rattle.rf_evaluate.specs.Kept.{AreKept};
-ghost use Rattle.rf_evaluate.specs.Search.{IsFound};
+ghost use Rattle.rf_evaluate.specs.Search.{AreValuesFound, IsFound};
 
 use crate::closures::Closures;
 use crate::evaluate::{body_of, completed, literal_value};
+use crate::gather::Gather;
 use crate::knowledge::Knowledge;
 use crate::next::next_variable;
 use crate::stage::{Body, Stage};
 use rf_problem::Clause;
 use rf_values::{Truth, Tuple};
 use std::alloc::AllocError;
-use std::cmp::Ordering;
+use std::collections::BTreeMap;
 
 /// A test of tuples.
 pub trait TupleTest {
@@ -39,34 +41,11 @@ struct Hunt<'h, T> {
     test: &'h T,
 }
 
-/// Of two tuples that may be there the one that comes first.
-fn earlier(first: Option<Tuple>, other: Option<Tuple>) -> Option<Tuple>
-    ensures { result ≡ earlier (slice_cmp nat_cmp) first other }
+/// Whether no tuple that goes on from this stage need be added any more.
+fn is_covered<G: Gather>(gathered: &G, stage: &Stage, arity: usize) -> bool
+    ensures { IsTrue result → (t : List ℕ) → length t ≡ arity → GoesOn stage.now t → (c : Column) → G.covers gathered.now t c }
 {
-    match (first, other) {
-        (None, _) => other,
-        (_, None) => first,
-        (Some(t), Some(u)) => {
-            if u.as_slice().cmp(&t.as_slice()) == Ordering::Less {
-                other
-            } else {
-                first
-            }
-        }
-    }
-}
-
-/// Whether a tuple that goes on from this stage can't come before the best.
-fn is_past(best: &Option<Tuple>, stage: &Stage) -> bool
-    ensures { IsTrue result ↔ IsPast best.now stage.now }
-{
-    match best {
-        Some(tuple) => {
-            let items = tuple.as_slice();
-            !items.is_empty() && !stage.unassigned[0] && items[0] < stage.elements[0]
-        }
-        None => false,
-    }
+    arity > 0 && !stage.unassigned[0] && gathered.covers_from(stage.elements[0])
 }
 
 /// Whether each parameter has its element.
@@ -82,58 +61,63 @@ fn are_closed(stage: &Stage, arity: usize) -> bool
     true
 }
 
-/// The earlier of the best and the tuple of the parameters' elements, where it is one that is looked
-/// for.
-fn judged<K: Knowledge, T: TupleTest>(
+/// Adds the tuple of the parameters' elements with the truth of the body there, where it is one that is
+/// looked for.
+fn judge<K: Knowledge, T: TupleTest, G: Gather>(
     known: &K,
     closures: &mut Closures,
     hunt: &Hunt<'_, T>,
     stage: Stage,
     value: Truth,
-    best: Option<Tuple>,
-) -> Result<Option<Tuple>, AllocError>
+    gathered: &mut G,
+) -> Result<(), AllocError>
     requires sound { IsSoundBody (K.known known.now) hunt.now.body }
     requires few { hunt.now.arity ≤ 4 }
     requires placed { IsPlaced (K.known known.now) hunt.now.arity stage }
     requires closed { AreClosed hunt.now.arity stage }
     requires kept { AreKept (K.known known.now) closures.old }
     ensures kept { AreKept (K.known known.now) closures.new }
-    ensures first { IfOk result (IsFirstOfBoth (slice_cmp nat_cmp) best
-        (IsReached (K.known known.now) hunt.now.body (T.passes hunt.now.test.now) hunt.now.arity stage value)) }
+    ensures gathered { OnOk result (HasGathered G.has G.covers
+        (IsReached (K.known known.now) hunt.now.body (T.passes hunt.now.test.now) hunt.now.arity stage value)
+        gathered.old gathered.new) }
 {
     let tuple = Tuple::of(&stage.elements[..hunt.arity]);
+    if gathered.is_settled(tuple, value) {
+        return Ok(());
+    }
     if !hunt.test.passes(tuple.as_slice()) {
-        return Ok(best);
+        return Ok(());
     }
     let rest = completed(known, closures, &hunt.body, stage)?;
-    if value.and(rest) == Truth::False {
-        return Ok(best);
+    let met = value.and(rest);
+    if met == Truth::False {
+        return Ok(());
     }
-    Ok(earlier(best, Some(tuple)))
+    gathered.add(tuple, met)
 }
 
-/// The earlier of the best and the first tuple that is looked for and goes on from this stage, where
+/// Adds the tuples that are looked for and go on from this stage with the truths of the body there, where
 /// what was evaluated so far has this value.
 #[cycle(search)]
-fn search<K: Knowledge, T: TupleTest>(
+fn search<K: Knowledge, T: TupleTest, G: Gather>(
     known: &K,
     closures: &mut Closures,
     hunt: &Hunt<'_, T>,
     stage: Stage,
     value: Truth,
-    best: Option<Tuple>,
-) -> Result<Option<Tuple>, AllocError>
+    gathered: &mut G,
+) -> Result<(), AllocError>
     requires sound { IsSoundBody (K.known known.now) hunt.now.body }
     requires few { hunt.now.arity ≤ 4 }
     requires placed { IsPlaced (K.known known.now) hunt.now.arity stage }
-    requires best { IsOfArity hunt.now.arity best }
     requires kept { AreKept (K.known known.now) closures.old }
     ensures kept { AreKept (K.known known.now) closures.new }
-    ensures first { IfOk result (IsFirstOfBoth (slice_cmp nat_cmp) best
-        (IsReached (K.known known.now) hunt.now.body (T.passes hunt.now.test.now) hunt.now.arity stage value)) }
+    ensures gathered { OnOk result (HasGathered G.has G.covers
+        (IsReached (K.known known.now) hunt.now.body (T.passes hunt.now.test.now) hunt.now.arity stage value)
+        gathered.old gathered.new) }
 {
-    if value == Truth::False || is_past(&best, &stage) {
-        return Ok(best);
+    if value == Truth::False || is_covered(gathered, &stage, hunt.arity) {
+        return Ok(());
     }
     if let Some(i) = stage.first_ground(&hunt.body) {
         let own = literal_value(known, closures, &hunt.body, i, stage.elements)?;
@@ -143,46 +127,45 @@ fn search<K: Knowledge, T: TupleTest>(
             hunt,
             stage.without(i),
             value.and(own),
-            best,
+            gathered,
         );
     }
     if are_closed(&stage, hunt.arity) {
-        return judged(known, closures, hunt, stage, value, best);
+        return judge(known, closures, hunt, stage, value, gathered);
     }
-    search_on(known, closures, hunt, stage, value, best)
+    search_on(known, closures, hunt, stage, value, gathered)
 }
 
 /// The same with the next variable's elements one by one.
 #[cycle(search)]
-fn search_on<K: Knowledge, T: TupleTest>(
+fn search_on<K: Knowledge, T: TupleTest, G: Gather>(
     known: &K,
     closures: &mut Closures,
     hunt: &Hunt<'_, T>,
     stage: Stage,
     value: Truth,
-    best: Option<Tuple>,
-) -> Result<Option<Tuple>, AllocError>
+    gathered: &mut G,
+) -> Result<(), AllocError>
     requires sound { IsSoundBody (K.known known.now) hunt.now.body }
     requires few { hunt.now.arity ≤ 4 }
     requires placed { IsPlaced (K.known known.now) hunt.now.arity stage }
     requires left { AreClosed hunt.now.arity stage → ⊥ }
-    requires best { IsOfArity hunt.now.arity best }
     requires kept { AreKept (K.known known.now) closures.old }
     ensures kept { AreKept (K.known known.now) closures.new }
-    ensures first { IfOk result (IsFirstOfBoth (slice_cmp nat_cmp) best
-        (IsReached (K.known known.now) hunt.now.body (T.passes hunt.now.test.now) hunt.now.arity stage value)) }
+    ensures gathered { OnOk result (HasGathered G.has G.covers
+        (IsReached (K.known known.now) hunt.now.body (T.passes hunt.now.test.now) hunt.now.arity stage value)
+        gathered.old gathered.new) }
 {
     let Some(next) = next_variable(known, &hunt.body, &stage, hunt.arity) else {
-        return Ok(best);
+        return Ok(());
     };
     let v = next.variable;
-    let mut first = best;
     for number in 0..next.elements.count() {
         let x = next.elements.at(number);
         let more = value_with(known, hunt.arity, v, value, x);
-        first = search(known, closures, hunt, stage.with(v, x), more, first)?;
+        search(known, closures, hunt, stage.with(v, x), more, gathered)?;
     }
-    Ok(first)
+    Ok(())
 }
 
 /// What was evaluated so far, with this element for a variable: a parameter ranges over all elements,
@@ -197,24 +180,23 @@ fn value_with<K: Knowledge>(known: &K, arity: usize, v: usize, value: Truth, x: 
     }
 }
 
-/// The earlier of the best and the first tuple at which a clause isn't false and a test passes.
-fn first_of_clause<K: Knowledge, T: TupleTest>(
+/// Adds the tuples at which a clause isn't false and a test passes, with truths that together are its value.
+fn search_clause<K: Knowledge, T: TupleTest, G: Gather>(
     known: &K,
     closures: &mut Closures,
     clause: &Clause,
     arity: usize,
     test: &T,
-    best: Option<Tuple>,
-) -> Result<Option<Tuple>, AllocError>
+    gathered: &mut G,
+) -> Result<(), AllocError>
     requires sound { IsSoundClause (K.known known.now) (length (K.known known.now).problem.predicates) clause.now }
     requires few { arity ≤ 4 }
     requires parameters { FitsClause (length (K.known known.now).problem.classes) (length (K.known known.now).problem.references)
         (K.known known.now).problem.objects (K.known known.now).problem.predicates arity clause.now }
-    requires best { IsOfArity arity best }
     requires kept { AreKept (K.known known.now) closures.old }
     ensures kept { AreKept (K.known known.now) closures.new }
-    ensures first { IfOk result (IsFirstOfBoth (slice_cmp nat_cmp) best
-        (IsFoundAt (K.known known.now) (T.passes test.now) arity clause.now)) }
+    ensures gathered { OnOk result (HasGathered G.has G.covers
+        (IsFoundAt (K.known known.now) (T.passes test.now) arity clause.now) gathered.old gathered.new) }
 {
     let hunt = Hunt {
         body: body_of(clause, known.problem().predicates.len()),
@@ -222,7 +204,30 @@ fn first_of_clause<K: Knowledge, T: TupleTest>(
         test,
     };
     let stage = Stage::of_clause(0, &hunt.body, [0; 8]);
-    search(known, closures, &hunt, stage, Truth::True, best)
+    search(known, closures, &hunt, stage, Truth::True, gathered)
+}
+
+/// Adds the tuples of as many elements as a predicate has parameters, at which its value isn't false
+/// and a test passes, with truths that together are the value.
+fn search_predicate<K: Knowledge, T: TupleTest, G: Gather>(
+    known: &K,
+    closures: &mut Closures,
+    predicate: u32,
+    test: &T,
+    gathered: &mut G,
+) -> Result<(), AllocError>
+    requires declared { predicate < length (K.known known.now).problem.predicates }
+    requires kept { AreKept (K.known known.now) closures.old }
+    ensures kept { AreKept (K.known known.now) closures.new }
+    ensures gathered { OnOk result (HasGathered G.has G.covers
+        (IsMet (K.known known.now) predicate (T.passes test.now)) gathered.old gathered.new) }
+{
+    let declared = known.problem().predicate(predicate);
+    let arity = declared.arity as usize;
+    for clause in declared.clauses.iter() {
+        search_clause(known, closures, clause, arity, test, gathered)?;
+    }
+    Ok(())
 }
 
 /// The first tuple of as many elements as a predicate has parameters, at which its value isn't false
@@ -241,11 +246,27 @@ pub fn first_tuple<K: Knowledge, T: TupleTest>(
     ensures kept { AreKept (K.known known.now) closures.new }
     ensures first { IfOk result (IsFirstOf (slice_cmp nat_cmp) (IsFound (K.known known.now) predicate (T.passes test.now))) }
 {
-    let declared = known.problem().predicate(predicate);
-    let arity = declared.arity as usize;
     let mut first = None;
-    for clause in declared.clauses.iter() {
-        first = first_of_clause(known, closures, clause, arity, test, first)?;
-    }
+    search_predicate(known, closures, predicate, test, &mut first)?;
     Ok(first)
+}
+
+/// The values of a predicate that aren't false, at the tuples of as many elements as it has parameters
+/// that pass a test, in lexicographic order of the tuples. What can make the predicate hold is gone
+/// over, as by `first_tuple`.
+pub fn values<K: Knowledge, T: TupleTest>(
+    known: &K,
+    closures: &mut Closures,
+    predicate: u32,
+    test: &T,
+) -> Result<Vec<(Tuple, Truth)>, AllocError>
+    requires declared { predicate < length (K.known known.now).problem.predicates }
+    requires kept { AreKept (K.known known.now) closures.old }
+    ensures kept { AreKept (K.known known.now) closures.new }
+    ensures found { IfOk result (λ values. AreValuesFound (K.known known.now) predicate (T.passes test.now) values.items) }
+{
+    let alloc = closures.alloc();
+    let mut values = BTreeMap::new(alloc);
+    search_predicate(known, closures, predicate, test, &mut values)?;
+    values.into_iter().collect(alloc)
 }

@@ -288,6 +288,13 @@ some_element-returns-clause-value g t c =
     let few : length c.args.stage.unassigned ≤ length c.args.stage.elements = search rules in
     completed-ended k c.args.body.now c.args.stage c.args.v c.args.elements few c.requires.candidates c.loop-number.number c.loop-number.found all c.loop-number.invariant.found
 
+pub some_element-with_element-requires : goal.some_element-with_element-requires
+some_element-with_element-requires g t c κs within =
+    let k = g.K.Knowledge.known c.args.known.now in
+    let there : c.at-x.result < k.size =
+    (let l = element_at-below k.size c.args.elements c.loop-number.number c.requires.candidates.below (omega (arith, c.count-number-end.ensures)) in omega (arith, c.at-x.ensures)) in
+    (omega arith, (within, (c.requires.sound, (c.requires.elements, (c.requires.candidates.variable, (there, c.loop-number.invariant.kept))))))
+
 pub steps_of-loop-x-init : goal.steps_of-loop-x-init
 steps_of-loop-x-init g t c = record { kept = c.requires.kept; steps = c.new-steps.ensures (g.K.Knowledge.known c.args.known.now) c.args.symbol }
 

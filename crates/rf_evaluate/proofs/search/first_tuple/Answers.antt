@@ -1,32 +1,14 @@
-use Rattle.std.proofs.Common.{◌≡◌, ◌∙◌, ap, refl}
-use Rattle.std.proofs.lemmas.Option.{slice_get_read}
-use Rattle.rf_problem.specs.Parts.{predicate_at}
-use Rattle.rf_problem.specs.declared.predicate.Predicate.{Predicate}
-use Rattle.rf_problem.specs.declared.problem.Problem.{Problem}
-use Rattle.rf_evaluate.proofs.ClauseSearch.{first-found, first-more_clauses, sound-clause}
+use Rattle.rf_evaluate.specs.Gathering.{Either}
+use Rattle.rf_evaluate.specs.Hunts.{IsMet}
+use Rattle.rf_evaluate.specs.Search.{IsFound}
+use Rattle.rf_evaluate.proofs.FoundValues.{IsFound-from_IsMet, IsMet-from_IsFound}
+use Rattle.rf_evaluate.proofs.Gathered.{IsFirstOf-from_gathered}
 use Rattle.rf_evaluate.proofs.search.first_tuple.Goals as goal
-
-pub first_of_clause-requires-clause-sound : goal.first_of_clause-requires-clause-sound
-first_of_clause-requires-clause-sound g c =
-    let k = g.K.Knowledge.known c.args.known.now in
-    let declared : c.predicate-declared.result.now ≡ predicate_at k.problem.predicates c.args.predicate =
-    c.predicate-declared.ensures ∙ ap (λ (p : Problem). predicate_at p.predicates c.args.predicate) c.problem.ensures in
-    sound-clause k c.args.predicate c.deref-clause-items.result.now c.loop-clause.clause-index c.clause-item.result c.requires.declared
-    (c.deref-clause-items.ensures ∙ ap (λ (p : Predicate). p.clauses) declared) c.loop-clause-test.true c.clause-item.is
-
-pub loop-clause-preserved : goal.loop-clause-preserved
-loop-clause-preserved g c = record {
-  kept = c.in_ok-first.ensures.kept;
-  first = first-more_clauses (g.K.Knowledge.known c.args.known.now) (g.T.TupleTest.passes c.args.test.now) c.predicate-declared.result.now.arity c.deref-clause-items.result.now
-      c.loop-clause.clause-index c.clause-item.result c.loop-clause.first c.in_ok-first.first
-      (slice_get_read c.deref-clause-items.result.now _ c.loop-clause.clause-index c.clause-item.result refl c.loop-clause-test.true c.clause-item.is)
-      c.loop-clause.invariant.first c.in_ok-first.ensures.first;
-}
 
 pub returns-clause-first : goal.returns-clause-first
 returns-clause-first g c =
     let k = g.K.Knowledge.known c.args.known.now in
-    let declared : c.predicate-declared.result.now ≡ predicate_at k.problem.predicates c.args.predicate =
-    c.predicate-declared.ensures ∙ ap (λ (p : Problem). predicate_at p.predicates c.args.predicate) c.problem.ensures in
-    first-found k c.args.predicate (g.T.TupleTest.passes c.args.test.now) c.loop-clause.clause-index c.predicate-declared.result.now.arity c.deref-clause-items.result.now c.loop-clause.first
-    (ap (λ (p : Predicate). p.arity) declared) (c.deref-clause-items.ensures ∙ ap (λ (p : Predicate). p.clauses) declared) c.loop-clause-test.false c.loop-clause.invariant.first
+    let q = c.args.predicate in
+    let passes = g.T.TupleTest.passes c.args.test.now in
+    IsFirstOf-from_gathered (IsMet k q passes) (IsFound k q passes) c.search_predicate.new.gathered (λ t m. IsFound-from_IsMet k q passes t Either m) (IsMet-from_IsFound k q passes)
+    c.in_ok-search_predicate.ensures.gathered

@@ -1,8 +1,8 @@
 use Rattle.std.proofs.Common.{◌≡◌, ◌==◌, ℕ, ap, rules, slice_index}
 use Rattle.std.specs.List.{list_all}
-use Rattle.rf_evaluate.proofs.ClauseSearch.{IsBegun, begun-placed, first-clause, zero-at}
-use Rattle.rf_evaluate.proofs.Searching.{IfOk-then}
-use Rattle.rf_evaluate.proofs.search.first_of_clause.Goals as goal
+use Rattle.std.proofs.lemmas.Result.{IfOk-weaker}
+use Rattle.rf_evaluate.proofs.ClauseSearch.{IsBegun, begun-placed, gathered-clause, zero-at}
+use Rattle.rf_evaluate.proofs.search.search_clause.Goals as goal
 
 pub search-requires-clause-placed : goal.search-requires-clause-placed
 search-requires-clause-placed g c =
@@ -23,8 +23,8 @@ search-requires-clause-placed g c =
     } in
     begun-placed (g.K.Knowledge.known c.args.known.now) c.body_of.result (g.T.TupleTest.passes c.args.test.now) c.args.arity c.of_clause-stage.result c.args.clause.now begun
 
-pub returns-clause-first : goal.returns-clause-first
-returns-clause-first g c =
+pub returns-clause-gathered : goal.returns-clause-gathered
+returns-clause-gathered g c =
     let zeros : (v : ℕ) → slice_index c.of_clause-stage.result.elements v ≡ 0 =
     λ v. zero-at c.of_clause-stage.result.elements v (ap (list_all (λ x. x == 0)) c.of_clause-stage.ensures.elements) in
     let begun : IsBegun c.body_of.result c.of_clause-stage.result c.args.arity c.args.clause.now = record {
@@ -40,5 +40,7 @@ returns-clause-first g c =
       parameters = c.requires.parameters.parameters;
       free = c.requires.parameters.free;
     } in
-    IfOk-then c.search.result c.search.ensures.first
-    (first-clause (g.K.Knowledge.known c.args.known.now) c.body_of.result (g.T.TupleTest.passes c.args.test.now) c.args.arity c.of_clause-stage.result c.args.clause.now begun c.args.best)
+    IfOk-weaker c.search.result _ _
+    (λ u h. gathered-clause (g.K.Knowledge.known c.args.known.now) c.body_of.result (g.T.TupleTest.passes c.args.test.now) c.args.arity c.of_clause-stage.result c.args.clause.now begun
+    g.G.Gather.has g.G.Gather.covers c.args.gathered.now c.search.new.gathered h)
+    c.search.ensures.gathered
