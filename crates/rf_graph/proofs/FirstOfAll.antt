@@ -15,7 +15,7 @@ use Rattle.rf_graph.specs.declared.verdict.Verdict.{Verdict}
 use Rattle.rf_graph.specs.declared.verdict.Verdict.TheVariants.{Satisfied, Violated}
 use Rattle.rf_graph.specs.declared.verdict.Violation.{Violation}
 use Rattle.rf_graph.specs.declared.verdict.Violation.TheVariants.{Class, Edge, Opposite, Degree, Containers, Cycle, Object, Asserted, Scope}
-use Rattle.rf_graph.proofs.Firsts.{HasPrefix, From, IsFirst, IsFirst-last, IsFirst-none, IsFirst-or, IsFirst-same}
+use Rattle.rf_finite.proofs.KeyedFirsts.{HasPrefix, From, IsKeyedFirst, IsKeyedFirst-last, IsKeyedFirst-none, IsKeyedFirst-or, IsKeyedFirst-same}
 use Rattle.rf_graph.proofs.FirstOfKind.{Broken, WronglyContained, Misplaced, OfAbstractClass, OffScope, OnCycle, OneWay, OutOfRange, Unsatisfied, first_asserted-IsFirst, first_class-IsFirst, first_containers-IsFirst, first_cycle-IsFirst, first_degree-IsFirst, first_edge-IsFirst, first_object-IsFirst, first_opposite-IsFirst, first_scope-IsFirst}
 
 -- of two violations not each stands before the other
@@ -91,28 +91,28 @@ module _ (p : Problem) (g : Graph) where
   IsViolation-from_kind v s = elim s [ inl k ↦ there v (Class k.0) k.1 k.2 | inr s ↦ IsViolation-from_1 v s ]
 
   -- what is computed is the first of all violations
-  first_violation-IsFirst : Fits p g → IsFirst (From [] 0) (IsViolation p g) (first_violation p g)
+  first_violation-IsFirst : Fits p g → IsKeyedFirst sort_key (From [] 0) (IsViolation p g) (first_violation p g)
   first_violation-IsFirst fits =
-      let from8 : IsFirst (From [] 8) (OffScope p g) (first_scope p g) = IsFirst-last [] 8 (OffScope p g) (first_scope p g) (first_scope-IsFirst p g) in
+      let from8 : IsKeyedFirst sort_key (From [] 8) (OffScope p g) (first_scope p g) = IsKeyedFirst-last sort_key [] 8 (OffScope p g) (first_scope p g) (first_scope-IsFirst p g) in
       let o7 : Option Violation = option_or (first_asserted p g) (first_scope p g) in
-      let from7 : IsFirst (From [] 7) From7 o7 = IsFirst-or [] 7 (Broken p g) (OffScope p g) (first_asserted p g) (first_scope p g) (first_asserted-IsFirst p g) from8 in
+      let from7 : IsKeyedFirst sort_key (From [] 7) From7 o7 = IsKeyedFirst-or sort_key [] 7 (Broken p g) (OffScope p g) (first_asserted p g) (first_scope p g) (first_asserted-IsFirst p g) from8 in
       let o6 : Option Violation = option_or (first_object p g) o7 in
-      let from6 : IsFirst (From [] 6) From6 o6 = IsFirst-or [] 6 (Unsatisfied p g) From7 (first_object p g) o7 (first_object-IsFirst p g) from7 in
+      let from6 : IsKeyedFirst sort_key (From [] 6) From6 o6 = IsKeyedFirst-or sort_key [] 6 (Unsatisfied p g) From7 (first_object p g) o7 (first_object-IsFirst p g) from7 in
       let o5 : Option Violation = option_or (first_cycle p g) o6 in
-      let from5 : IsFirst (From [] 5) From5 o5 = IsFirst-or [] 5 (OnCycle p g) From6 (first_cycle p g) o6 (first_cycle-IsFirst p g) from6 in
+      let from5 : IsKeyedFirst sort_key (From [] 5) From5 o5 = IsKeyedFirst-or sort_key [] 5 (OnCycle p g) From6 (first_cycle p g) o6 (first_cycle-IsFirst p g) from6 in
       let o4 : Option Violation = option_or (first_containers p g) o5 in
-      let from4 : IsFirst (From [] 4) From4 o4 = IsFirst-or [] 4 (WronglyContained p g) From5 (first_containers p g) o5 (first_containers-IsFirst p g) from5 in
+      let from4 : IsKeyedFirst sort_key (From [] 4) From4 o4 = IsKeyedFirst-or sort_key [] 4 (WronglyContained p g) From5 (first_containers p g) o5 (first_containers-IsFirst p g) from5 in
       let o3 : Option Violation = option_or (first_degree p g) o4 in
-      let from3 : IsFirst (From [] 3) From3 o3 = IsFirst-or [] 3 (OutOfRange p g) From4 (first_degree p g) o4 (first_degree-IsFirst p g) from4 in
+      let from3 : IsKeyedFirst sort_key (From [] 3) From3 o3 = IsKeyedFirst-or sort_key [] 3 (OutOfRange p g) From4 (first_degree p g) o4 (first_degree-IsFirst p g) from4 in
       let o2 : Option Violation = option_or (first_opposite p g) o3 in
-      let from2 : IsFirst (From [] 2) From2 o2 = IsFirst-or [] 2 (OneWay p g) From3 (first_opposite p g) o3 (first_opposite-IsFirst p g fits) from3 in
+      let from2 : IsKeyedFirst sort_key (From [] 2) From2 o2 = IsKeyedFirst-or sort_key [] 2 (OneWay p g) From3 (first_opposite p g) o3 (first_opposite-IsFirst p g fits) from3 in
       let o1 : Option Violation = option_or (first_edge p g) o2 in
-      let from1 : IsFirst (From [] 1) From1 o1 = IsFirst-or [] 1 (Misplaced p g) From2 (first_edge p g) o2 (first_edge-IsFirst p g fits) from2 in
-      let from0 : IsFirst (From [] 0) ByKind (first_violation p g) = IsFirst-or [] 0 (OfAbstractClass p g) From1 (first_class p g) o1 (first_class-IsFirst p g) from1 in
-      IsFirst-same (From [] 0) ByKind (IsViolation p g) (first_violation p g) from0 IsViolation-from_kind kind-from_IsViolation
+      let from1 : IsKeyedFirst sort_key (From [] 1) From1 o1 = IsKeyedFirst-or sort_key [] 1 (Misplaced p g) From2 (first_edge p g) o2 (first_edge-IsFirst p g fits) from2 in
+      let from0 : IsKeyedFirst sort_key (From [] 0) ByKind (first_violation p g) = IsKeyedFirst-or sort_key [] 0 (OfAbstractClass p g) From1 (first_class p g) o1 (first_class-IsFirst p g) from1 in
+      IsKeyedFirst-same sort_key (From [] 0) ByKind (IsViolation p g) (first_violation p g) from0 IsViolation-from_kind kind-from_IsViolation
 
   -- a value that is the first of its kind in words
-  FirstViolation-from_IsFirst : (o : Option Violation) → IsFirst (From [] 0) (IsViolation p g) o → (v : Violation) → o ≡ Some v → FirstViolation p g v
+  FirstViolation-from_IsFirst : (o : Option Violation) → IsKeyedFirst sort_key (From [] 0) (IsViolation p g) o → (v : Violation) → o ≡ Some v → FirstViolation p g v
   FirstViolation-from_IsFirst o f v e = record {
     there = f.some v e;
     first = λ w before h. elim (f.least v e w h) [
@@ -121,7 +121,7 @@ module _ (p : Problem) (g : Graph) where
     ];
   }
 
-  IsFirst-from_FirstViolation : (o : Option Violation) → IsFirst (From [] 0) (IsViolation p g) o → (v : Violation) → FirstViolation p g v → o ≡ Some v
+  IsFirst-from_FirstViolation : (o : Option Violation) → IsKeyedFirst sort_key (From [] 0) (IsViolation p g) o → (v : Violation) → FirstViolation p g v → o ≡ Some v
   IsFirst-from_FirstViolation None f v h = absurd (f.none refl v h.there)
   IsFirst-from_FirstViolation (Some w) f v h = elim (f.least w refl v h.there) [
     | inl same ↦ ap (λ (u : Violation). Some u) (sym same)
@@ -140,7 +140,7 @@ module _ (p : Problem) (g : Graph) where
   Sat-from_no_violation fits e = record { fits = fits; no_violation = (first_violation-IsFirst fits).none e }
 
   pub no_violation-from_Sat : Fits p g → Sat p g → first_violation p g ≡ None
-  no_violation-from_Sat fits s = IsFirst-none (From [] 0) (IsViolation p g) (first_violation p g) (first_violation-IsFirst fits) s.no_violation
+  no_violation-from_Sat fits s = IsKeyedFirst-none sort_key (From [] 0) (IsViolation p g) (first_violation p g) (first_violation-IsFirst fits) s.no_violation
 
   -- where none of the first six kinds is found, no violation of these kinds is there
   pub Shaped-from_none : Fits p g → first_class p g ≡ None → first_edge p g ≡ None → first_opposite p g ≡ None → first_degree p g ≡ None
@@ -159,12 +159,12 @@ module _ (p : Problem) (g : Graph) where
   pub none-from_Shaped : Fits p g → Shaped p g
       → (first_class p g ≡ None) × (first_edge p g ≡ None) × (first_opposite p g ≡ None) × (first_degree p g ≡ None) × (first_containers p g ≡ None) × (first_cycle p g ≡ None)
   none-from_Shaped fits shaped = (
-    IsFirst-none (HasPrefix (0 ∷ [])) (OfAbstractClass p g) (first_class p g) (first_class-IsFirst p g) (λ v k. shaped (Class k.0) refl k.2),
-    IsFirst-none (HasPrefix (1 ∷ [])) (Misplaced p g) (first_edge p g) (first_edge-IsFirst p g fits) (λ v k. shaped (Edge k.0 k.1 k.2) refl k.4),
-    IsFirst-none (HasPrefix (2 ∷ [])) (OneWay p g) (first_opposite p g) (first_opposite-IsFirst p g fits) (λ v k. shaped (Opposite k.0 k.1 k.2) refl k.4),
-    IsFirst-none (HasPrefix (3 ∷ [])) (OutOfRange p g) (first_degree p g) (first_degree-IsFirst p g) (λ v k. shaped (Degree k.0 k.1) refl k.3),
-    IsFirst-none (HasPrefix (4 ∷ [])) (WronglyContained p g) (first_containers p g) (first_containers-IsFirst p g) (λ v k. shaped (Containers k.0) refl k.2),
-    IsFirst-none (HasPrefix (5 ∷ [])) (OnCycle p g) (first_cycle p g) (first_cycle-IsFirst p g) (λ v k. shaped (Cycle k.0) refl k.2),
+    IsKeyedFirst-none sort_key (HasPrefix (0 ∷ [])) (OfAbstractClass p g) (first_class p g) (first_class-IsFirst p g) (λ v k. shaped (Class k.0) refl k.2),
+    IsKeyedFirst-none sort_key (HasPrefix (1 ∷ [])) (Misplaced p g) (first_edge p g) (first_edge-IsFirst p g fits) (λ v k. shaped (Edge k.0 k.1 k.2) refl k.4),
+    IsKeyedFirst-none sort_key (HasPrefix (2 ∷ [])) (OneWay p g) (first_opposite p g) (first_opposite-IsFirst p g fits) (λ v k. shaped (Opposite k.0 k.1 k.2) refl k.4),
+    IsKeyedFirst-none sort_key (HasPrefix (3 ∷ [])) (OutOfRange p g) (first_degree p g) (first_degree-IsFirst p g) (λ v k. shaped (Degree k.0 k.1) refl k.3),
+    IsKeyedFirst-none sort_key (HasPrefix (4 ∷ [])) (WronglyContained p g) (first_containers p g) (first_containers-IsFirst p g) (λ v k. shaped (Containers k.0) refl k.2),
+    IsKeyedFirst-none sort_key (HasPrefix (5 ∷ [])) (OnCycle p g) (first_cycle p g) (first_cycle-IsFirst p g) (λ v k. shaped (Cycle k.0) refl k.2),
   )
 
   -- the violation that a verdict names

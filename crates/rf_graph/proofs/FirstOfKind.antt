@@ -12,7 +12,7 @@ use Rattle.rf_values.specs.declared.truth.Truth.{Truth}
 use Rattle.rf_values.specs.declared.truth.Truth.TheVariants.{True, False, Unknown, Error}
 use Rattle.rf_problem.specs.Asserted.{admitted, asserted}
 use Rattle.rf_problem.specs.Parts.{arity_of, object_at, reference_at, scope_at}
-use Rattle.rf_problem.specs.Classes.{class_at, is_below}
+use Rattle.rf_problem.specs.Classes.{class_at, is_below, may_have_class}
 use Rattle.rf_problem.specs.Contained.{is_contained_class}
 use Rattle.rf_problem.specs.Valid.{is_declared}
 use Rattle.rf_problem.specs.declared.object.ObjectKind.{ObjectKind}
@@ -24,7 +24,7 @@ use Rattle.rf_problem.specs.declared.symbol.Symbol.{Symbol}
 use Rattle.rf_problem.specs.declared.symbol.Symbol.TheVariants.{Class as OfClass, Reference, Predicate, Exists, Equals}
 use Rattle.rf_problem.proofs.Below.{IsBelow-from_is_below, is_below-from_IsBelow}
 use Rattle.rf_graph.specs.Evaluate.{holds}
-use Rattle.rf_graph.specs.First.{breaks, first_asserted, first_broken, first_class, first_containers, first_cycle, first_degree, first_edge, first_edge_of, first_object, first_opposite, first_scope, fits_ends, has_mirror, has_stranger, is_in_range, may_come_from, is_wrongly_contained, may_have_class, when}
+use Rattle.rf_graph.specs.First.{breaks, first_asserted, first_broken, first_class, first_containers, first_cycle, first_degree, first_edge, first_edge_of, first_object, first_opposite, first_scope, fits_ends, has_mirror, has_stranger, is_in_range, may_come_from, is_wrongly_contained, when}
 use Rattle.rf_graph.specs.Graph.{Fits, FitsEdge, HasEdge, class_of, has_edge, origin_of, size_of}
 use Rattle.rf_graph.specs.Holds.{Holds}
 use Rattle.rf_graph.specs.Violations.{Breaks, HasStranger, IsBroken, IsWronglyContained, IsMisplaced, IsOfAbstractClass, IsOffScope, IsOnCycle, IsOneWay, IsOutOfRange, IsUnsatisfied, MayHaveClass, container_count, degree_of, contains_in, is_counted, nodes_from, sort_key}
@@ -32,14 +32,14 @@ use Rattle.rf_graph.specs.declared.graph.Graph.{Graph}
 use Rattle.rf_graph.specs.declared.verdict.Violation.{Violation}
 use Rattle.rf_graph.specs.declared.verdict.Violation.TheVariants.{Class, Edge, Opposite, Degree, Containers, Cycle, Object, Asserted, Scope}
 use Rattle.rf_graph.proofs.Edges.{HasEdge-from_has_edge, has_edge-from_HasEdge}
-use Rattle.rf_graph.proofs.Firsts.{HasPrefix, IsFirst, IsFirst-below, IsFirst-last, IsFirst-or, IsFirst-row, IsFirst-same, IsFirst-tuple, IsFirst-when, IsThis, SomeBelow, SomeTuple}
+use Rattle.rf_finite.proofs.KeyedFirsts.{HasPrefix, IsKeyedFirst, IsKeyedFirst-below, IsKeyedFirst-last, IsKeyedFirst-or, IsKeyedFirst-row, IsKeyedFirst-same, IsKeyedFirst-tuple, IsKeyedFirst-one, IsThis, SomeBelow, SomeTuple}
 use Rattle.rf_graph.proofs.Meaning.{Holds-from_holds, holds-from_Holds}
 
 -- violations of one number below a bound
 IsFirst-numbers : (kind n : ℕ) (this : ℕ → Violation) (test : ℕ → Bool) → ((x : ℕ) → sort_key (this x) ≡ kind ∷ x ∷ [])
-    → IsFirst (HasPrefix (kind ∷ [])) (SomeBelow n (λ x. IsThis (this x) (test x))) (first_below n (λ x. when (test x) (this x)))
-IsFirst-numbers kind n this test key = IsFirst-below (kind ∷ []) n (λ x. when (test x) (this x)) (λ x. IsThis (this x) (test x))
-    (λ x l. IsFirst-when (this x) (test x) (kind ∷ x ∷ []) (key x))
+    → IsKeyedFirst sort_key (HasPrefix (kind ∷ [])) (SomeBelow n (λ x. IsThis (this x) (test x))) (first_below n (λ x. when (test x) (this x)))
+IsFirst-numbers kind n this test key = IsKeyedFirst-below sort_key (kind ∷ []) n (λ x. when (test x) (this x)) (λ x. IsThis (this x) (test x))
+    (λ x l. IsKeyedFirst-one sort_key (this x) (test x) (kind ∷ x ∷ []) (key x))
 
 module _ (p : Problem) (g : Graph) where
   -- violations of an edge
@@ -47,21 +47,21 @@ module _ (p : Problem) (g : Graph) where
   AtEdges this test = SomeBelow (length p.references) (λ r. SomeBelow (size_of g) (λ x. SomeBelow (size_of g) (λ y. IsThis (this r x y) (test r x y))))
 
   IsFirst-edges : (kind : ℕ) (this : ℕ → ℕ → ℕ → Violation) (test : ℕ → ℕ → ℕ → Bool) → ((r x y : ℕ) → sort_key (this r x y) ≡ kind ∷ r ∷ x ∷ y ∷ [])
-      → IsFirst (HasPrefix (kind ∷ [])) (AtEdges this test) (first_edge_of p g (λ r x y. when (test r x y) (this r x y)))
+      → IsKeyedFirst sort_key (HasPrefix (kind ∷ [])) (AtEdges this test) (first_edge_of p g (λ r x y. when (test r x y) (this r x y)))
   IsFirst-edges kind this test key =
-      IsFirst-below (kind ∷ []) (length p.references) (λ r. first_below (size_of g) (λ x. first_below (size_of g) (λ y. when (test r x y) (this r x y))))
+      IsKeyedFirst-below sort_key (kind ∷ []) (length p.references) (λ r. first_below (size_of g) (λ x. first_below (size_of g) (λ y. when (test r x y) (this r x y))))
       (λ r. SomeBelow (size_of g) (λ x. SomeBelow (size_of g) (λ y. IsThis (this r x y) (test r x y))))
-      (λ r k. IsFirst-below (kind ∷ r ∷ []) (size_of g) (λ x. first_below (size_of g) (λ y. when (test r x y) (this r x y)))
+      (λ r k. IsKeyedFirst-below sort_key (kind ∷ r ∷ []) (size_of g) (λ x. first_below (size_of g) (λ y. when (test r x y) (this r x y)))
       (λ x. SomeBelow (size_of g) (λ y. IsThis (this r x y) (test r x y)))
-      (λ x l. IsFirst-below (kind ∷ r ∷ x ∷ []) (size_of g) (λ y. when (test r x y) (this r x y)) (λ y. IsThis (this r x y) (test r x y))
-      (λ y m. IsFirst-when (this r x y) (test r x y) (kind ∷ r ∷ x ∷ y ∷ []) (key r x y))))
+      (λ x l. IsKeyedFirst-below sort_key (kind ∷ r ∷ x ∷ []) (size_of g) (λ y. when (test r x y) (this r x y)) (λ y. IsThis (this r x y) (test r x y))
+      (λ y m. IsKeyedFirst-one sort_key (this r x y) (test r x y) (kind ∷ r ∷ x ∷ y ∷ []) (key r x y))))
 
   -- nodes of abstract classes
   abbrev pub OfAbstractClass : Violation → Type 0
   OfAbstractClass v = (x : ℕ) × (v ≡ Class x) × IsOfAbstractClass p g x
 
-  pub first_class-IsFirst : IsFirst (HasPrefix (0 ∷ [])) OfAbstractClass (first_class p g)
-  first_class-IsFirst = IsFirst-same (HasPrefix (0 ∷ [])) (SomeBelow (size_of g) (λ x. IsThis (Class x) (class_at p.classes (class_of g x)).is_abstract)) OfAbstractClass (first_class p g)
+  pub first_class-IsFirst : IsKeyedFirst sort_key (HasPrefix (0 ∷ [])) OfAbstractClass (first_class p g)
+  first_class-IsFirst = IsKeyedFirst-same sort_key (HasPrefix (0 ∷ [])) (SomeBelow (size_of g) (λ x. IsThis (Class x) (class_at p.classes (class_of g x)).is_abstract)) OfAbstractClass (first_class p g)
       (IsFirst-numbers 0 (size_of g) (λ x. Class x) (λ x. (class_at p.classes (class_of g x)).is_abstract) (λ x. refl))
       (λ v s. (s.0, s.2.0, record { node = s.1; abstract_class = s.2.1 }))
       (λ v s. (s.0, s.2.node, (s.1, s.2.abstract_class)))
@@ -92,8 +92,8 @@ module _ (p : Problem) (g : Graph) where
       m.ends (IsBelow-from_is_below p.classes (class_of g x) (reference_at p.references r).source parts.0)
       (IsBelow-from_is_below p.classes (class_of g y) (reference_at p.references r).target parts.1))))
 
-  pub first_edge-IsFirst : Fits p g → IsFirst (HasPrefix (1 ∷ [])) Misplaced (first_edge p g)
-  first_edge-IsFirst fits = IsFirst-same (HasPrefix (1 ∷ [])) (AtEdges (λ r x y. Edge r x y) (λ r x y. has_edge g r x y && not (fits_ends p g r x y))) Misplaced (first_edge p g)
+  pub first_edge-IsFirst : Fits p g → IsKeyedFirst sort_key (HasPrefix (1 ∷ [])) Misplaced (first_edge p g)
+  first_edge-IsFirst fits = IsKeyedFirst-same sort_key (HasPrefix (1 ∷ [])) (AtEdges (λ r x y. Edge r x y) (λ r x y. has_edge g r x y && not (fits_ends p g r x y))) Misplaced (first_edge p g)
       (IsFirst-edges 1 (λ r x y. Edge r x y) (λ r x y. has_edge g r x y && not (fits_ends p g r x y)) (λ r x y. refl))
       (λ v s. (s.0, s.2.0, s.2.2.0, s.2.2.2.0, IsMisplaced-from_test s.0 s.2.0 s.2.2.0 s.2.2.2.1))
       (λ v s. (let fit = edge-fits fits s.0 s.1 s.2 s.4.edge in
@@ -111,9 +111,9 @@ module _ (p : Problem) (g : Graph) where
   test-from_missing o s x y e missing = subst (λ (o : Option ℕ). has_mirror g o x y ≡ false) (sym e)
       (false_from_ne_true (has_edge g s y x) (λ h. missing (HasEdge-from_has_edge g s y x h)))
 
-  pub first_opposite-IsFirst : Fits p g → IsFirst (HasPrefix (2 ∷ [])) OneWay (first_opposite p g)
+  pub first_opposite-IsFirst : Fits p g → IsKeyedFirst sort_key (HasPrefix (2 ∷ [])) OneWay (first_opposite p g)
   first_opposite-IsFirst fits =
-      IsFirst-same (HasPrefix (2 ∷ [])) (AtEdges (λ r x y. Opposite r x y) (λ r x y. has_edge g r x y && not (has_mirror g (reference_at p.references r).opposite x y))) OneWay (first_opposite p g)
+      IsKeyedFirst-same sort_key (HasPrefix (2 ∷ [])) (AtEdges (λ r x y. Opposite r x y) (λ r x y. has_edge g r x y && not (has_mirror g (reference_at p.references r).opposite x y))) OneWay (first_opposite p g)
       (IsFirst-edges 2 (λ r x y. Opposite r x y) (λ r x y. has_edge g r x y && not (has_mirror g (reference_at p.references r).opposite x y)) (λ r x y. refl))
       (λ v s. (s.0, s.2.0, s.2.2.0, s.2.2.2.0, to s.0 s.2.0 s.2.2.0 s.2.2.2.1))
       (λ v s. (let fit = edge-fits fits s.0 s.1 s.2 s.4.edge in
@@ -136,12 +136,12 @@ module _ (p : Problem) (g : Graph) where
   abbrev AtDegrees : Violation → Type 0
   AtDegrees = SomeBelow (length p.references) (λ r. SomeBelow (size_of g) (λ x. IsThis (Degree r x) (not (is_in_range p g r x))))
 
-  pub first_degree-IsFirst : IsFirst (HasPrefix (3 ∷ [])) OutOfRange (first_degree p g)
-  first_degree-IsFirst = IsFirst-same (HasPrefix (3 ∷ [])) AtDegrees OutOfRange (first_degree p g)
-      (IsFirst-below (3 ∷ []) (length p.references) (λ r. first_below (size_of g) (λ x. when (not (is_in_range p g r x)) (Degree r x)))
+  pub first_degree-IsFirst : IsKeyedFirst sort_key (HasPrefix (3 ∷ [])) OutOfRange (first_degree p g)
+  first_degree-IsFirst = IsKeyedFirst-same sort_key (HasPrefix (3 ∷ [])) AtDegrees OutOfRange (first_degree p g)
+      (IsKeyedFirst-below sort_key (3 ∷ []) (length p.references) (λ r. first_below (size_of g) (λ x. when (not (is_in_range p g r x)) (Degree r x)))
       (λ r. SomeBelow (size_of g) (λ x. IsThis (Degree r x) (not (is_in_range p g r x))))
-      (λ r k. IsFirst-below (3 ∷ r ∷ []) (size_of g) (λ x. when (not (is_in_range p g r x)) (Degree r x)) (λ x. IsThis (Degree r x) (not (is_in_range p g r x)))
-      (λ x l. IsFirst-when (Degree r x) (not (is_in_range p g r x)) (3 ∷ r ∷ x ∷ []) refl)))
+      (λ r k. IsKeyedFirst-below sort_key (3 ∷ r ∷ []) (size_of g) (λ x. when (not (is_in_range p g r x)) (Degree r x)) (λ x. IsThis (Degree r x) (not (is_in_range p g r x)))
+      (λ x l. IsKeyedFirst-one sort_key (Degree r x) (not (is_in_range p g r x)) (3 ∷ r ∷ x ∷ []) refl)))
       (λ v s. (s.0, s.2.0, s.2.2.0, to s.0 s.2.0 s.1 s.2.1 s.2.2.1))
       (λ v s. (s.0, s.3.reference, (s.1, s.3.node, (s.2, from s.0 s.1 s.3))))
     where
@@ -168,8 +168,8 @@ module _ (p : Problem) (g : Graph) where
   abbrev pub WronglyContained : Violation → Type 0
   WronglyContained v = (z : ℕ) × (v ≡ Containers z) × IsWronglyContained p g z
 
-  pub first_containers-IsFirst : IsFirst (HasPrefix (4 ∷ [])) WronglyContained (first_containers p g)
-  first_containers-IsFirst = IsFirst-same (HasPrefix (4 ∷ [])) (SomeBelow (size_of g) (λ z. IsThis (Containers z) (is_wrongly_contained p g z))) WronglyContained (first_containers p g)
+  pub first_containers-IsFirst : IsKeyedFirst sort_key (HasPrefix (4 ∷ [])) WronglyContained (first_containers p g)
+  first_containers-IsFirst = IsKeyedFirst-same sort_key (HasPrefix (4 ∷ [])) (SomeBelow (size_of g) (λ z. IsThis (Containers z) (is_wrongly_contained p g z))) WronglyContained (first_containers p g)
       (IsFirst-numbers 4 (size_of g) (λ z. Containers z) (λ z. is_wrongly_contained p g z) (λ z. refl))
       (λ v s. (s.0, s.2.0, record { node = s.1; pairs = to s.0 s.2.1 }))
       (λ v s. (s.0, s.2.node, (s.1, from s.0 s.2.pairs)))
@@ -191,9 +191,9 @@ module _ (p : Problem) (g : Graph) where
   abbrev pub OnCycle : Violation → Type 0
   OnCycle v = (x : ℕ) × (v ≡ Cycle x) × IsOnCycle p g x
 
-  pub first_cycle-IsFirst : IsFirst (HasPrefix (5 ∷ [])) OnCycle (first_cycle p g)
+  pub first_cycle-IsFirst : IsKeyedFirst sort_key (HasPrefix (5 ∷ [])) OnCycle (first_cycle p g)
   first_cycle-IsFirst =
-      IsFirst-same (HasPrefix (5 ∷ [])) (SomeBelow (size_of g) (λ x. IsThis (Cycle x) (walk_below (contains_in p g) (λ y. true) (size_of g) x x))) OnCycle (first_cycle p g)
+      IsKeyedFirst-same sort_key (HasPrefix (5 ∷ [])) (SomeBelow (size_of g) (λ x. IsThis (Cycle x) (walk_below (contains_in p g) (λ y. true) (size_of g) x x))) OnCycle (first_cycle p g)
       (IsFirst-numbers 5 (size_of g) (λ x. Cycle x) (λ x. walk_below (contains_in p g) (λ y. true) (size_of g) x x) (λ x. refl))
       (λ v s. (s.0, s.2.0, record { node = s.1; cycle = IsReachable-from_walk_below (contains_in p g) (λ y. true) (size_of g) s.0 s.0 s.2.1 }))
       (λ v s. (s.0, s.2.node, (s.1, walk_below-from_IsWalk (contains_in p g) (λ y. true) (size_of g) s.0 s.2.cycle.0 s.0 s.2.cycle.1)))
@@ -239,8 +239,8 @@ module _ (p : Problem) (g : Graph) where
   abbrev is_unsatisfied : ℕ → Bool
   is_unsatisfied o = not (contains (admitted p o) (nodes_from g o)) || has_stranger p g o
 
-  pub first_object-IsFirst : IsFirst (HasPrefix (6 ∷ [])) Unsatisfied (first_object p g)
-  first_object-IsFirst = IsFirst-same (HasPrefix (6 ∷ [])) (SomeBelow (length p.objects) (λ o. IsThis (Object o) (is_unsatisfied o))) Unsatisfied (first_object p g)
+  pub first_object-IsFirst : IsKeyedFirst sort_key (HasPrefix (6 ∷ [])) Unsatisfied (first_object p g)
+  first_object-IsFirst = IsKeyedFirst-same sort_key (HasPrefix (6 ∷ [])) (SomeBelow (length p.objects) (λ o. IsThis (Object o) (is_unsatisfied o))) Unsatisfied (first_object p g)
       (IsFirst-numbers 6 (length p.objects) (λ o. Object o) is_unsatisfied (λ o. refl))
       (λ v s. (s.0, s.2.0, record { object = s.1; fails = to s.0 s.2.1 }))
       (λ v s. (s.0, s.2.object, (s.1, from s.0 s.2.fails)))
@@ -265,8 +265,8 @@ module _ (p : Problem) (g : Graph) where
   abbrev pub is_on_scope : ℕ → Bool
   is_on_scope s = contains (scope_at p.scopes s).range (count_below (size_of g) (is_counted p g (scope_at p.scopes s)))
 
-  pub first_scope-IsFirst : IsFirst (HasPrefix (8 ∷ [])) OffScope (first_scope p g)
-  first_scope-IsFirst = IsFirst-same (HasPrefix (8 ∷ [])) (SomeBelow (length p.scopes) (λ s. IsThis (Scope s) (not (is_on_scope s)))) OffScope (first_scope p g)
+  pub first_scope-IsFirst : IsKeyedFirst sort_key (HasPrefix (8 ∷ [])) OffScope (first_scope p g)
+  first_scope-IsFirst = IsKeyedFirst-same sort_key (HasPrefix (8 ∷ [])) (SomeBelow (length p.scopes) (λ s. IsThis (Scope s) (not (is_on_scope s)))) OffScope (first_scope p g)
       (IsFirst-numbers 8 (length p.scopes) (λ s. Scope s) (λ s. not (is_on_scope s)) (λ s. refl))
       (λ v s. (s.0, s.2.0, record { scope = s.1; outside = not-true (is_on_scope s.0) s.2.1 }))
       (λ v s. (s.0, s.2.scope, (s.1, not_from_false (is_on_scope s.0) s.2.outside)))
@@ -307,14 +307,14 @@ module _ (p : Problem) (g : Graph) where
   BrokenAt symbol v = (t : List ℕ) × (v ≡ Asserted symbol t) × IsBroken p g symbol t
 
   pub first_broken-IsFirst : (symbol : Symbol) (prefix : List ℕ) → is_declared (length p.classes) (length p.references) (length p.predicates) symbol ≡ true
-      → ((t : List ℕ) → sort_key (Asserted symbol t) ≡ prefix ++ t) → IsFirst (HasPrefix prefix) (BrokenAt symbol) (first_broken p g symbol)
+      → ((t : List ℕ) → sort_key (Asserted symbol t) ≡ prefix ++ t) → IsKeyedFirst sort_key (HasPrefix prefix) (BrokenAt symbol) (first_broken p g symbol)
   first_broken-IsFirst symbol prefix d key =
-      IsFirst-same (HasPrefix prefix) (SomeTuple (size_of g) (arity_of p.predicates symbol) [] (λ t. IsThis (Asserted symbol t) (is_broken symbol t))) (BrokenAt symbol) (first_broken p g symbol)
-      (subst (λ at. IsFirst (HasPrefix at) (SomeTuple (size_of g) (arity_of p.predicates symbol) [] (λ t. IsThis (Asserted symbol t) (is_broken symbol t))) (first_broken p g symbol)) (append-nil prefix)
-      (IsFirst-tuple prefix (size_of g) (λ t. when (is_broken symbol t) (Asserted symbol t)) (λ t. IsThis (Asserted symbol t) (is_broken symbol t))
-      (λ t. IsFirst-when (Asserted symbol t) (is_broken symbol t) (prefix ++ t) (key t)) (arity_of p.predicates symbol) []))
-      (λ v s. (s.rest, s.there.0, IsBroken-from_test symbol s.rest d s.arity s.below s.there.1))
-      (λ v s. record { rest = s.0; arity = s.2.arity; below = s.2.nodes; there = (s.1, test-from_IsBroken symbol s.0 s.2) })
+      IsKeyedFirst-same sort_key (HasPrefix prefix) (SomeTuple (size_of g) (arity_of p.predicates symbol) [] (λ t. IsThis (Asserted symbol t) (is_broken symbol t))) (BrokenAt symbol) (first_broken p g symbol)
+      (subst (λ at. IsKeyedFirst sort_key (HasPrefix at) (SomeTuple (size_of g) (arity_of p.predicates symbol) [] (λ t. IsThis (Asserted symbol t) (is_broken symbol t))) (first_broken p g symbol)) (append-nil prefix)
+      (IsKeyedFirst-tuple sort_key prefix (size_of g) (λ t. when (is_broken symbol t) (Asserted symbol t)) (λ t. IsThis (Asserted symbol t) (is_broken symbol t))
+      (λ t. IsKeyedFirst-one sort_key (Asserted symbol t) (is_broken symbol t) (prefix ++ t) (key t)) (arity_of p.predicates symbol) []))
+      (λ v s. (s.rest, s.there.0, IsBroken-from_test symbol s.rest d s.tuple.many s.tuple.below s.there.1))
+      (λ v s. record { rest = s.0; tuple = record { many = s.2.arity; below = s.2.nodes }; there = (s.1, test-from_IsBroken symbol s.0 s.2) })
 
   -- of any
   abbrev pub Broken : Violation → Type 0
@@ -339,21 +339,21 @@ module _ (p : Problem) (g : Graph) where
     | inr s ↦ elim s [ inl s ↦ (Reference s.0, s.2.0, s.2.1, s.2.2) | inr s ↦ (Predicate s.0, s.2.0, s.2.1, s.2.2) ]
   ]
 
-  pub first_asserted-IsFirst : IsFirst (HasPrefix (7 ∷ [])) Broken (first_asserted p g)
-  first_asserted-IsFirst = IsFirst-same (HasPrefix (7 ∷ [])) BrokenByKind Broken (first_asserted p g)
-      (IsFirst-row (7 ∷ []) 0 BrokenByKind (first_asserted p g)
-      (IsFirst-or (7 ∷ []) 0 (SomeBelow (length p.classes) (λ c. BrokenAt (OfClass c)))
+  pub first_asserted-IsFirst : IsKeyedFirst sort_key (HasPrefix (7 ∷ [])) Broken (first_asserted p g)
+  first_asserted-IsFirst = IsKeyedFirst-same sort_key (HasPrefix (7 ∷ [])) BrokenByKind Broken (first_asserted p g)
+      (IsKeyedFirst-row sort_key (7 ∷ []) 0 BrokenByKind (first_asserted p g)
+      (IsKeyedFirst-or sort_key (7 ∷ []) 0 (SomeBelow (length p.classes) (λ c. BrokenAt (OfClass c)))
       (λ v. SomeBelow (length p.references) (λ r. BrokenAt (Reference r)) v ⊎ SomeBelow (length p.predicates) (λ q. BrokenAt (Predicate q)) v)
       (first_below (length p.classes) (λ c. first_broken p g (OfClass c)))
       (option_or (first_below (length p.references) (λ r. first_broken p g (Reference r))) (first_below (length p.predicates) (λ q. first_broken p g (Predicate q))))
-      (IsFirst-below (7 ∷ 0 ∷ []) (length p.classes) (λ c. first_broken p g (OfClass c)) (λ c. BrokenAt (OfClass c))
+      (IsKeyedFirst-below sort_key (7 ∷ 0 ∷ []) (length p.classes) (λ c. first_broken p g (OfClass c)) (λ c. BrokenAt (OfClass c))
       (λ c l. first_broken-IsFirst (OfClass c) (7 ∷ 0 ∷ c ∷ []) (lt-ltb c (length p.classes) l) (λ t. refl)))
-      (IsFirst-or (7 ∷ []) 1 (SomeBelow (length p.references) (λ r. BrokenAt (Reference r))) (SomeBelow (length p.predicates) (λ q. BrokenAt (Predicate q)))
+      (IsKeyedFirst-or sort_key (7 ∷ []) 1 (SomeBelow (length p.references) (λ r. BrokenAt (Reference r))) (SomeBelow (length p.predicates) (λ q. BrokenAt (Predicate q)))
       (first_below (length p.references) (λ r. first_broken p g (Reference r))) (first_below (length p.predicates) (λ q. first_broken p g (Predicate q)))
-      (IsFirst-below (7 ∷ 1 ∷ []) (length p.references) (λ r. first_broken p g (Reference r)) (λ r. BrokenAt (Reference r))
+      (IsKeyedFirst-below sort_key (7 ∷ 1 ∷ []) (length p.references) (λ r. first_broken p g (Reference r)) (λ r. BrokenAt (Reference r))
       (λ r l. first_broken-IsFirst (Reference r) (7 ∷ 1 ∷ r ∷ []) (lt-ltb r (length p.references) l) (λ t. refl)))
-      (IsFirst-last (7 ∷ []) 2 (SomeBelow (length p.predicates) (λ q. BrokenAt (Predicate q))) (first_below (length p.predicates) (λ q. first_broken p g (Predicate q)))
-      (IsFirst-below (7 ∷ 2 ∷ []) (length p.predicates) (λ q. first_broken p g (Predicate q)) (λ q. BrokenAt (Predicate q))
+      (IsKeyedFirst-last sort_key (7 ∷ []) 2 (SomeBelow (length p.predicates) (λ q. BrokenAt (Predicate q))) (first_below (length p.predicates) (λ q. first_broken p g (Predicate q)))
+      (IsKeyedFirst-below sort_key (7 ∷ 2 ∷ []) (length p.predicates) (λ q. first_broken p g (Predicate q)) (λ q. BrokenAt (Predicate q))
       (λ q l. first_broken-IsFirst (Predicate q) (7 ∷ 2 ∷ q ∷ []) (lt-ltb q (length p.predicates) l) (λ t. refl)))))))
       Broken-from_kind
       (λ v s. kind-from_Broken v s.0 s.1 s.2 s.3)

@@ -3,7 +3,6 @@ pub mod Documents
 pub mod Edges
 pub mod FirstOfAll
 pub mod FirstOfKind
-pub mod Firsts
 pub mod Grown
 pub mod Index
 pub mod Lines

@@ -1,20 +1,17 @@
 -- The first violation, computed: kind by kind, the least by its sort key.
-use Rattle.std.specs.Prelude.{ℕ, zero, suc, Bool, true, false, ◌==◌, ◌&&◌, ◌||◌, not, nat_le, Option, None, Some, List, [], ◌∷◌, ◌++◌, map, length}
+use Rattle.std.specs.Prelude.{ℕ, Bool, true, false, ◌==◌, ◌&&◌, ◌||◌, not, nat_le, Option, None, Some, [], map, length}
+use Rattle.std.specs.Bool.{then_some}
 use Rattle.std.specs.Option.{option_or}
 use Rattle.rf_finite.specs.Range.{count_below, first_below, some_below}
+use Rattle.rf_finite.specs.Tuples.{first_tuple}
 use Rattle.rf_finite.specs.Walks.{walk_below}
 use Rattle.rf_values.specs.Count.{contains}
 use Rattle.rf_values.specs.declared.truth.Truth.{Truth}
 use Rattle.rf_values.specs.declared.truth.Truth.TheVariants.{True, False, Unknown, Error}
 use Rattle.rf_problem.specs.Asserted.{admitted, asserted}
 use Rattle.rf_problem.specs.Parts.{arity_of, object_at, reference_at, scope_at}
-use Rattle.rf_problem.specs.Classes.{class_at, is_below}
+use Rattle.rf_problem.specs.Classes.{class_at, is_below, may_have_class}
 use Rattle.rf_problem.specs.Contained.{is_contained_class}
-use Rattle.rf_problem.specs.declared.class.Class.{Class as ClassDecl}
-use Rattle.rf_problem.specs.declared.object.ObjectKind.{ObjectKind}
-use Rattle.rf_problem.specs.declared.object.ObjectKind.TheVariants.{Plain, Atom, LiteralOf}
-use Rattle.rf_problem.specs.declared.object.ObjectName.{ObjectName}
-use Rattle.rf_problem.specs.declared.object.ObjectName.TheVariants.{Named, NewOf}
 use Rattle.rf_problem.specs.declared.problem.Problem.{Problem}
 use Rattle.rf_problem.specs.declared.symbol.Symbol.{Symbol}
 use Rattle.rf_problem.specs.declared.symbol.Symbol.TheVariants.{Class as OfClass, Reference, Predicate}
@@ -27,8 +24,7 @@ use Rattle.rf_graph.specs.declared.verdict.Violation.TheVariants.{Class, Edge, O
 
 -- this violation, where it is there
 abbrev pub when : Bool → Violation → Option Violation
-when true v = Some v
-when false v = None
+when b v = then_some b v
 
 abbrev pub first_class : Problem → Graph → Option Violation
 first_class p g = first_below (size_of g) (λ x. when (class_at p.classes (class_of g x)).is_abstract (Class x))
@@ -77,13 +73,6 @@ first_containers p g = first_below (size_of g) (λ z. when (is_wrongly_contained
 abbrev pub first_cycle : Problem → Graph → Option Violation
 first_cycle p g = first_below (size_of g) (λ x. when (walk_below (contains_in p g) (λ y. true) (size_of g) x x) (Cycle x))
 
--- whether a node of class c may come from an object of this name and kind
-abbrev pub may_have_class : List ClassDecl → ObjectName → ObjectKind → ℕ → Bool
-may_have_class classes (NewOf k) kind c = c == k
-may_have_class classes (Named name) (LiteralOf e) c = c == e
-may_have_class classes (Named name) Plain c = not (class_at classes c).is_enum
-may_have_class classes (Named name) Atom c = not (class_at classes c).is_enum
-
 -- whether node x may come from object o by its class
 abbrev pub may_come_from : Problem → Graph → ℕ → ℕ → Bool
 may_come_from p g o x = may_have_class p.classes (object_at p.objects o).name (object_at p.objects o).kind (class_of g x)
@@ -101,11 +90,6 @@ breaks True b = not b
 breaks False b = b
 breaks Unknown b = false
 breaks Error b = true
-
--- the first of the tuples that go on with so many of n nodes where the test finds a violation
-abbrev pub first_tuple : ℕ → ℕ → List ℕ → (List ℕ → Option Violation) → Option Violation
-first_tuple n zero t test = test t
-first_tuple n (suc more) t test = first_below n (λ x. first_tuple n more (t ++ x ∷ []) test)
 
 -- the first tuple of nodes at which what is asserted of a symbol isn't satisfied
 abbrev pub first_broken : Problem → Graph → Symbol → Option Violation

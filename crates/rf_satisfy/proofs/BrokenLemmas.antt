@@ -5,6 +5,9 @@ use Rattle.std.specs.List.{list_any}
 use Rattle.std.proofs.lemmas.Bool.{cases_Bool, and_parts, and_from, or_cases, or_left, or_right, both_ways, eqb-true, false_from_ne_true}
 use Rattle.std.proofs.lemmas.List.{get_or_default, take_all}
 use Rattle.std.proofs.lemmas.List.Folds.{Any-from_list_any, list_any_more}
+use Rattle.std.specs.Cmp.Lexicographic.{slice_cmp}
+use Rattle.std.specs.Ordering.{nat_cmp}
+use Rattle.rf_finite.specs.Firsts.{earlier}
 use Rattle.rf_finite.proofs.Lists.{list_any-more_pass}
 use Rattle.rf_values.specs.declared.truth.Truth.TheVariants.{True, False}
 use Rattle.rf_problem.specs.Asserted.{asserted, is_literal_of, match_each, unwritten, when}
@@ -18,7 +21,7 @@ use Rattle.rf_graph.specs.First.{breaks}
 use Rattle.rf_graph.specs.Graph.{origin_of}
 use Rattle.rf_graph.specs.declared.graph.Graph.{Graph}
 use Rattle.rf_satisfy.specs.Suspects.{assertion_at, denies, is_broken, is_denied_at, is_error_symbol, is_excess, is_lack_by, is_stray, is_suspect, is_suspect_by, is_unwritten_at, no_assertion, speaks_at, wants}
-use Rattle.rf_satisfy.specs.Tuples.{ArePassing, IsFirst, earlier}
+use Rattle.rf_satisfy.specs.Tuples.{ArePassing, IsFirst}
 use Rattle.rf_satisfy.proofs.SuspectLemmas.{found-is, list_any-weaker}
 use Rattle.rf_satisfy.proofs.TupleLemmas.{IsFirst-earlier, IsFirst-same}
 
@@ -155,20 +158,20 @@ module _ (p : Problem) (g : Graph) (s : Symbol) (numbers : List ℕ) (listed : A
 
   -- the first of each part is the first of all
   pub broken-first : (n m : ℕ) (denied stray lack : Option (List ℕ)) → IsFirst n m (is_excess p g s) denied → IsFirst n m (is_stray p g s) stray
-      → IsFirst n m (λ t. lacks t) lack → IsFirst n m (is_broken p g s) (earlier denied (earlier stray lack))
+      → IsFirst n m (λ t. lacks t) lack → IsFirst n m (is_broken p g s) (earlier (slice_cmp nat_cmp) denied (earlier (slice_cmp nat_cmp) stray lack))
   broken-first n m denied stray lack a b c =
-      IsFirst-same n m (λ t. parted t) (is_broken p g s) (earlier denied (earlier stray lack)) (λ t h. parted-is t)
-      (IsFirst-earlier n m (is_excess p g s) (λ t. is_stray p g s t || lacks t) denied (earlier stray lack) a
+      IsFirst-same n m (λ t. parted t) (is_broken p g s) (earlier (slice_cmp nat_cmp) denied (earlier (slice_cmp nat_cmp) stray lack)) (λ t h. parted-is t)
+      (IsFirst-earlier n m (is_excess p g s) (λ t. is_stray p g s t || lacks t) denied (earlier (slice_cmp nat_cmp) stray lack) a
       (IsFirst-earlier n m (is_stray p g s) (λ t. lacks t) stray lack b c))
 
   -- a loop through the numbers
   module _ (n m i : ℕ) (first other : Option (List ℕ)) (l : i < length numbers) where
     pub lacks-more : IsFirst n m (λ t. list_any (λ k. is_lack_by p g s t (assertion_at p s k)) (take i numbers)) first
         → IsFirst n m (λ t. is_lack_by p g s t (assertion_at p s (get_or numbers i 0))) other
-        → IsFirst n m (λ t. list_any (λ k. is_lack_by p g s t (assertion_at p s k)) (take (i + 1) numbers)) (earlier first other)
+        → IsFirst n m (λ t. list_any (λ k. is_lack_by p g s t (assertion_at p s k)) (take (i + 1) numbers)) (earlier (slice_cmp nat_cmp) first other)
     lacks-more so_far h =
         IsFirst-same n m (λ t. list_any (λ k. is_lack_by p g s t (assertion_at p s k)) (take i numbers) || is_lack_by p g s t (assertion_at p s (get_or numbers i 0)))
-        (λ t. list_any (λ k. is_lack_by p g s t (assertion_at p s k)) (take (i + 1) numbers)) (earlier first other)
+        (λ t. list_any (λ k. is_lack_by p g s t (assertion_at p s k)) (take (i + 1) numbers)) (earlier (slice_cmp nat_cmp) first other)
         (λ t u. sym (list_any_more (λ k. is_lack_by p g s t (assertion_at p s k)) numbers i 0 l))
         (IsFirst-earlier n m (λ t. list_any (λ k. is_lack_by p g s t (assertion_at p s k)) (take i numbers)) (λ t. is_lack_by p g s t (assertion_at p s (get_or numbers i 0))) first other so_far h)
 

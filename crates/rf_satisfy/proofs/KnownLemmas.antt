@@ -1,10 +1,13 @@
 -- What is known of a graph is what holds in it.
-use Rattle.std.proofs.Common.{◌≡◌, ◌≢◌, ◌∙◌, ℕ, Bool, true, false, ◌==◌, not, if◌then◌else◌, List, [], ◌∷◌, length, Option, Some, None, refl, sym, ap, ap₂}
+use Rattle.std.proofs.Common.{◌≡◌, ◌≢◌, ◌∙◌, ℕ, Bool, true, false, ◌==◌, not, List, [], ◌∷◌, length, Option, refl, sym, ap, ap₂}
+use Rattle.std.specs.Bool.{then_some}
 use Rattle.std.specs.Cmp.Lexicographic.{slice_cmp}
 use Rattle.std.specs.Ordering.{nat_cmp}
-use Rattle.std.proofs.lemmas.Bool.{and_parts, and_from, eq-eqb, false_from_ne_true}
+use Rattle.std.proofs.lemmas.Bool.{and_parts, and_from, eq-eqb}
 use Rattle.rf_finite.specs.Firsts.{IsFirstOf}
+use Rattle.rf_finite.specs.Tuples.{IsTuple}
 use Rattle.rf_finite.specs.Range.{first_below}
+use Rattle.rf_finite.proofs.Firsts.{IsFirstOf-same}
 use Rattle.rf_values.specs.Truth.{may, must, truth_of}
 use Rattle.rf_values.specs.declared.truth.Truth.{Truth}
 use Rattle.rf_values.specs.declared.truth.Truth.TheVariants.{False}
@@ -21,7 +24,7 @@ use Rattle.rf_evaluate.specs.Known.{in_both, side, value_of}
 use Rattle.rf_evaluate.specs.Search.{IsFound}
 use Rattle.rf_satisfy.specs.GraphKnown.{certain, graph_known}
 use Rattle.rf_satisfy.specs.Suspects.{is_denied_at, is_denied_tuple, is_excess}
-use Rattle.rf_satisfy.specs.Tuples.{IsFirst, IsTuple}
+use Rattle.rf_satisfy.specs.Tuples.{IsFirst}
 use Rattle.rf_satisfy.proofs.TupleLemmas.{IsFirst-from_first_passing}
 
 must-certain : (b : Bool) → must (certain b) ≡ b
@@ -88,21 +91,19 @@ module _ (p : Problem) (g : Graph) where
     found-from_excess t h e =
         let parts = and_parts (holds p g (Predicate q) t) (is_denied_at p g (Predicate q) t) e in
         record {
-          tuple = record { many = h.len ∙ arity; below = h.nodes };
-          passed = and_from (length t == n) (is_denied_at p g (Predicate q) t) (eq-eqb (length t) n h.len) parts.1;
+          tuple = record { many = h.many ∙ arity; below = h.below };
+          passed = and_from (length t == n) (is_denied_at p g (Predicate q) t) (eq-eqb (length t) n h.many) parts.1;
           value = λ w. true_not (holds p g (Predicate q) t) parts.0 (sym (value-is (Predicate q) t) ∙ w);
         }
 
     -- the first that is found is the first at which what is asserted isn't satisfied by the predicate's holding
     pub first-excess : (o : Option (List ℕ)) → IsFirstOf (slice_cmp nat_cmp) (IsFound (graph_known p g) q passes) o → IsFirst (size_of g) n (is_excess p g (Predicate q)) o
-    first-excess None h = λ u t. false_from_ne_true (is_excess p g (Predicate q) u) (λ e. h u (found-from_excess u t e))
-    first-excess (Some t) h = record {
-      tuple = record { len = h.passes.tuple.many ∙ sym arity; nodes = h.passes.tuple.below };
-      passes = excess-from_found t h.passes;
-      first = λ u hu b. false_from_ne_true (is_excess p g (Predicate q) u) (λ e. h.first u b (found-from_excess u hu e));
-    }
+    first-excess o h =
+        IsFirstOf-same (slice_cmp nat_cmp) (IsFound (graph_known p g) q passes) (λ t. IsTuple (size_of g) n t × (is_excess p g (Predicate q) t ≡ true)) o
+        (λ t f. (record { many = f.tuple.many ∙ sym arity; below = f.tuple.below }, excess-from_found t f))
+        (λ t e. found-from_excess t e.0 e.1) h
 
   -- the first node at which it isn't by its having a class
-  pub first-node : (c : ℕ) (o : Option (List ℕ)) → o ≡ first_below (size_of g) (λ x. if is_excess p g (Class c) (x ∷ []) then Some (x ∷ []) else None)
+  pub first-node : (c : ℕ) (o : Option (List ℕ)) → o ≡ first_below (size_of g) (λ x. then_some (is_excess p g (Class c) (x ∷ [])) (x ∷ []))
       → IsFirst (size_of g) 1 (is_excess p g (Class c)) o
   first-node c o e = IsFirst-from_first_passing (size_of g) 1 (is_excess p g (Class c)) o e

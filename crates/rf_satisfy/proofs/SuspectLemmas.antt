@@ -1,12 +1,17 @@
 -- Tuples of nodes whose origins match arguments, and what merged assertions break.
-use Rattle.std.proofs.Common.{◌≡◌, ℕ, suc, ◌+◌, ◌-◌, ◌<◌, Bool, true, false, cond, not, ◌&&◌, ◌||◌, eqb, Option, Some, None, List, [], ◌∷◌, ◌++◌, length, map, take, get_or, refl, sym, ap, ◌∙◌, subst, inl, inr, arith, true≢false, add-one, length-append}
+use Rattle.std.proofs.Common.{◌≡◌, ℕ, suc, ◌+◌, ◌-◌, ◌<◌, Bool, true, false, not, ◌&&◌, ◌||◌, eqb, Option, Some, None, List, [], ◌∷◌, ◌++◌, length, map, take, get_or, refl, sym, ap, ◌∙◌, subst, inl, inr, arith, true≢false, add-one, length-append}
 use Rattle.std.specs.Prelude.{filter}
 use Rattle.std.specs.List.{list_any}
 use Rattle.std.specs.Option.{is_some, option_map}
+use Rattle.std.specs.Bool.{then_some}
+use Rattle.std.specs.Cmp.Lexicographic.{slice_cmp}
+use Rattle.std.specs.Ordering.{nat_cmp}
 use Rattle.std.specs.Cmp.{both_ways as same_tests}
 use Rattle.std.proofs.lemmas.Bool.{cases_Bool, cases_order, and_parts, and_from, or_cases, or_left, or_right, both_ways, eq-eqb, eqb-true, false_from_ne_true}
 use Rattle.std.proofs.lemmas.List.{get_or_default, take_all}
 use Rattle.std.proofs.lemmas.List.Folds.{Any-from_list_any, list_any-append}
+use Rattle.rf_finite.specs.Firsts.{earlier}
+use Rattle.rf_finite.specs.Tuples.{IsTuple}
 use Rattle.rf_finite.specs.Range.{first_below}
 use Rattle.rf_finite.proofs.Range.{first_below-at, first_below-none, one-from_some_below, some_below-from_one}
 use Rattle.rf_values.specs.Truth.{merge}
@@ -25,7 +30,7 @@ use Rattle.rf_graph.specs.Graph.{origin_of, size_of}
 use Rattle.rf_graph.specs.declared.graph.Graph.{Graph}
 use Rattle.rf_graph.specs.declared.verdict.Violation.TheVariants.{Asserted}
 use Rattle.rf_satisfy.specs.Suspects.{is_broken, is_stray_among, is_stray_from, is_suspect, is_suspect_by, is_unwritten_at}
-use Rattle.rf_satisfy.specs.Tuples.{ArePassing, IsFirst, IsTuple, earlier, first_passing}
+use Rattle.rf_satisfy.specs.Tuples.{ArePassing, IsFirst, first_passing}
 use Rattle.rf_satisfy.proofs.TupleLemmas.{IsFirst-earlier, IsFirst-same, first_passing-from_IsFirst, first_passing-none, first_tuple-is}
 
 module _ (f : ℕ → ℕ) where
@@ -238,7 +243,7 @@ module _ (p : Problem) (g : Graph) (s : Symbol) (args : List (Option ℕ)) (valu
 -- the search has come to a whole tuple
 pub search-leaf : (p : Problem) (g : Graph) (s : Symbol) (args : List (Option ℕ)) (value : Truth) (prefix : List ℕ) (found : Bool) → length prefix ≡ length args
     → match_each (take (length prefix) args) (map (origin_of g) prefix) ≡ true → found ≡ (breaks value (holds p g s prefix) && is_broken p g s prefix)
-    → first_passing (size_of g) (length args - length prefix) prefix (is_suspect p g s args value) ≡ cond found (Some prefix) None
+    → first_passing (size_of g) (length args - length prefix) prefix (is_suspect p g s args value) ≡ then_some found prefix
 search-leaf p g s args value prefix found l h e =
     let none : length args - length prefix ≡ 0 = omega arith in
     let whole : take (length prefix) args ≡ args = take_all (length prefix) args (omega arith) in
@@ -301,17 +306,17 @@ module _ (p : Problem) (g : Graph) (c : ℕ) where
 
   -- so what isn't satisfied at some literal's node is what is asserted there unwritten
   strays : ((x : ℕ) → x < size_of g → origin_of g x < length p.objects) → (t : List ℕ) → IsTuple (size_of g) 1 t → is_stray_among p g c (length p.objects) t ≡ is_unwritten_at p g (Class c) t
-  strays from [] h = absurd (let l = h.len in omega arith)
+  strays from [] h = absurd (let l = h.many in omega arith)
   strays from (x ∷ []) h =
-      let own = from x (h.nodes 0 0 (omega arith)) in
+      let own = from x (h.below 0 0 (omega arith)) in
       same_tests (is_stray_among p g c (length p.objects) (x ∷ [])) (is_unwritten_at p g (Class c) (x ∷ [])) (stray-unwritten x own) (unwritten-stray x own)
-  strays from (x ∷ y ∷ t) h = absurd (let l = h.len in omega arith)
+  strays from (x ∷ y ∷ t) h = absurd (let l = h.many in omega arith)
 
   -- a loop through the objects
   module _ (o : ℕ) (first : Option (List ℕ)) (so_far : IsFirst (size_of g) 1 (is_stray_among p g c o) first) where
     pub strays-more : (other : Option (List ℕ)) → IsFirst (size_of g) 1 (is_stray_from p g c o) other
-        → IsFirst (size_of g) 1 (is_stray_among p g c (o + 1)) (earlier first other)
-    strays-more other h = IsFirst-same (size_of g) 1 (λ t. is_stray_among p g c o t || is_stray_from p g c o t) (is_stray_among p g c (o + 1)) (earlier first other)
+        → IsFirst (size_of g) 1 (is_stray_among p g c (o + 1)) (earlier (slice_cmp nat_cmp) first other)
+    strays-more other h = IsFirst-same (size_of g) 1 (λ t. is_stray_among p g c o t || is_stray_from p g c o t) (is_stray_among p g c (o + 1)) (earlier (slice_cmp nat_cmp) first other)
         (λ t u. rw add-one refl)
         (IsFirst-earlier (size_of g) 1 (is_stray_among p g c o) (is_stray_from p g c o) first other so_far h)
 

@@ -16,9 +16,8 @@ ghost use Rattle.rf_satisfy.specs.Tuples.{IsFirst};
 
 use crate::graph_index::GraphIndex;
 use crate::suspects::is_denied_at;
-use crate::tuples::earlier;
 use rf_evaluate::{Closures, TupleTest, first_tuple};
-use rf_finite::{Rule, first_found};
+use rf_finite::{Rule, earlier, first_found};
 use rf_graph::Edge;
 use rf_problem::Symbol;
 use rf_values::Tuple;
@@ -33,14 +32,15 @@ struct ClassRule<'a> {
 }
 
 impl Rule<Tuple> for ClassRule<'_> {
-    ghost use Rattle.std.specs.Prelude.{◌∷◌, [], Some, None, if◌then◌else◌};
+    ghost use Rattle.std.specs.Bool.{then_some};
+    ghost use Rattle.std.specs.Prelude.{◌∷◌, []};
     ghost use Rattle.rf_problem.specs.declared.symbol.Symbol.TheVariants.{Class};
     ghost use Rattle.rf_graph.specs.Graph.{size_of};
     ghost use Rattle.rf_satisfy.specs.Suspects.{is_excess};
 
     ghost bound = { λ s. size_of s.index.now.graph };
 
-    ghost found = { λ s x. if is_excess s.index.now.problem s.index.now.graph (Class s.class) (x ∷ []) then Some (x ∷ []) else None };
+    ghost found = { λ s x. then_some (is_excess s.index.now.problem s.index.now.graph (Class s.class) (x ∷ [])) (x ∷ []) };
 
     fn bound(&self) -> u64 {
         self.index.size()

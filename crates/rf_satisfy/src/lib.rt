@@ -26,6 +26,5 @@ mod peeling;
 mod scopes;
 mod suspects;
 mod tables;
-mod tuples;
 
 pub use judging::judge;

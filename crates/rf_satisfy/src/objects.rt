@@ -1,11 +1,12 @@
 //! Objects and the nodes that come from them.
 
 ghost use Rattle.std.specs.Prelude.{◌≡◌, ◌<◌, ◌&&◌, ◌||◌, IfOk, false, length, not, replicate};
-ghost use Rattle.rf_graph.specs.First.{first_object, has_stranger, may_have_class, when};
+ghost use Rattle.rf_graph.specs.First.{first_object, has_stranger, when};
 ghost use Rattle.rf_graph.specs.Graph.{Fits, size_of};
 ghost use Rattle.rf_graph.specs.Violations.{nodes_from};
 ghost use Rattle.rf_graph.specs.declared.verdict.Violation.TheVariants.{Object};
 ghost use Rattle.rf_problem.specs.Asserted.{admitted};
+ghost use Rattle.rf_problem.specs.Classes.{may_have_class};
 ghost use Rattle.rf_values.specs.Count.{contains};
 ghost use Rattle.rf_satisfy.specs.Objects.{CountsNodes, is_native};
 

@@ -15,7 +15,6 @@ ghost use Rattle.rf_satisfy.specs.Tuples.{ArePassing, first_passing};
 
 use crate::graph_index::GraphIndex;
 use crate::nodes::origin_of;
-use crate::tuples::longer;
 use rf_evaluate::{Closures, value};
 use rf_problem::Symbol;
 use rf_values::{Truth, Tuple};
@@ -39,7 +38,7 @@ fn origins(index: &GraphIndex<'_>, tuple: &[u64]) -> Tuple
 {
     let mut objects = Tuple::of(&[]);
     for x in tuple {
-        objects = longer(objects, origin_of(index.graph(), *x));
+        objects = objects.with(origin_of(index.graph(), *x));
     }
     objects
 }
@@ -134,7 +133,7 @@ pub fn first_from(
         return Ok(if found { Some(prefix) } else { None });
     }
     for x in index.nodes_matching(args[position]) {
-        let first = first_from(index, closures, symbol, args, value, longer(prefix, *x))?;
+        let first = first_from(index, closures, symbol, args, value, prefix.with(*x))?;
         if first.is_some() {
             return Ok(first);
         }
