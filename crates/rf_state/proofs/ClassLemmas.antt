@@ -1,12 +1,15 @@
 -- Sets of classes against tests of each declared class.
-use Rattle.std.proofs.Common.{◌≡◌, ℕ, Bool, true, false, ◌&&◌, ◌||◌, not, ◌<◌, ◌≤◌, refl, sym, inl, inr}
+use Rattle.std.proofs.Common.{◌≡◌, ◌∙◌, true≢false, length, ℕ, Bool, true, false, ◌&&◌, ◌||◌, not, ◌<◌, ◌≤◌, refl, sym, inl, inr}
 use Rattle.std.specs.Prelude.{IsTrue, nat_lt, ◌↔◌}
 use Rattle.std.specs.FinSet.{FinSet, contains}
 use Rattle.std.specs.Ordering.{nat_cmp}
 use Rattle.std.specs.Cmp.{both_ways as same_tests}
-use Rattle.std.proofs.lemmas.Bool.{cases_Bool, cases_lt, lt-ltb, le-ltb, false_from_ne_true}
+use Rattle.std.proofs.lemmas.Bool.{and_right, cases_Bool, cases_lt, lt-ltb, le-ltb}
 use Rattle.rf_finite.specs.Range.{all_below, some_below}
-use Rattle.rf_finite.proofs.Range.{all_below-from_each, each-from_all_below, each-from_some_below, one-from_some_below}
+use Rattle.rf_finite.proofs.Range.{all_below-from_each, each-from_all_below, each-from_some_below, some_below-none}
+use Rattle.rf_problem.specs.Classes.{is_below}
+use Rattle.rf_problem.specs.declared.problem.Problem.{Problem}
+use Rattle.rf_problem.proofs.BelowLemmas.{is_below-past}
 
 kept : (a u : Bool) → ((a && true) && not u) ≡ false → (not a || u) ≡ true
 kept false u e = refl
@@ -21,10 +24,6 @@ left_out true false e = sym e
 beyond : (a b : Bool) → ((a && false) && b) ≡ false
 beyond false b = refl
 beyond true b = refl
-
-among : (a u : Bool) → ((a && true) && u) ≡ (a && u)
-among false u = refl
-among true u = refl
 
 module _ (n : ℕ) (classes numbers declared under chosen : FinSet nat_cmp) (is_under : ℕ → Bool)
     (all : (c : ℕ) → contains numbers c ≡ nat_lt c n)
@@ -49,19 +48,19 @@ module _ (n : ℕ) (classes numbers declared under chosen : FinSet nat_cmp) (is_
         | inr m ↦ (let w = past c m in rw (e, w) (beyond (contains classes c) (not (contains under c))))
       ]))
 
-  -- some of them is below the top where some declared one is
-  pub empty-some_below : ((c : ℕ) → contains chosen c ≡ (contains declared c && contains under c))
-      → not empty ≡ some_below n (λ c. contains classes c && is_under c)
-  empty-some_below is = elim (cases_Bool (some_below n (λ c. contains classes c && is_under c))) [
-    | inl t ↦ (let one = one-from_some_below n (λ c. contains classes c && is_under c) t in
-        let e = is one.0 in let w = within one.0 one.1 in let b = below one.0 in let h = one.2 in
-        let has : contains chosen one.0 ≡ true = rw (e, w, b, among (contains classes one.0) (is_under one.0)) h in
-        let no : empty ≡ false = false_from_ne_true empty (λ q. let none = tested.0 q one.0 in cc) in
-        rw (t, no) refl)
-    | inr f ↦ (let yes : empty ≡ true = tested.1 (λ c. let e = is c in let b = below c in elim (cases_lt c n) [
-      | inl l ↦ (let w = within c l in let h = each-from_some_below n (λ c. contains classes c && is_under c) f c l in
-          rw (e, w, b, among (contains classes c) (is_under c)) h)
-      | inr m ↦ (let w = past c m in rw (e, w) (beyond (contains classes c) (contains under c)))
-    ]) in
-        rw (f, yes) refl)
+module _ (p : Problem) (classes both : FinSet nat_cmp) (k : ℕ) (there : k < length p.classes)
+    (are : (c : ℕ) → contains both c ≡ (contains classes c && is_below p.classes c k)) where
+  none-below : some_below (length p.classes) (λ c. contains classes c && is_below p.classes c k) ≡ false → (c : ℕ) → contains both c ≡ false
+  none-below none c = elim (cases_lt c (length p.classes)) [
+    | inl l ↦ are c ∙ each-from_some_below (length p.classes) _ none c l
+    | inr past ↦ are c ∙ and_right _ _ (is_below-past p.classes c k past there)
+  ]
+
+  -- some of them is below the top where the set of those that are isn't empty
+  pub empty-some_below : (empty : Bool) → (IsTrue empty ↔ ((c : ℕ) → contains both c ≡ false))
+      → not empty ≡ some_below (length p.classes) (λ c. contains classes c && is_below p.classes c k)
+  empty-some_below true tested = sym (some_below-none (length p.classes) _ (λ c l. sym (are c) ∙ tested.0 refl c))
+  empty-some_below false tested = elim (cases_Bool (some_below (length p.classes) (λ c. contains classes c && is_below p.classes c k))) [
+    | inl e ↦ sym e
+    | inr e ↦ absurd (true≢false (sym (tested.1 (none-below e))))
   ]

@@ -97,17 +97,17 @@ module _ (p : Problem) (s : State) (o : ℕ) (there : o < length s.objects) wher
   object-other : (x : ℕ) → x < n → x ≢ o → object_of (fresh_of s o) x ≡ object_of s x
   object-other x l ne = object-old x l ∙ get_or-set_other s.objects o x left no_object ne
 
-  copied-fresh : copied_from s o n ≡ o
+  copied-fresh : copied_from o n n ≡ o
   copied-fresh = let e = eq-eqb n n refl in rw e refl
 
-  copied-old : (x : ℕ) → x < n → copied_from s o x ≡ x
+  copied-old : (x : ℕ) → x < n → copied_from o n x ≡ x
   copied-old x l = let e = ne_eqb x n (λ q. absurd (omega (arith, l, q))) in rw e refl
 
   -- an object of the state after, and that of the state before of whose origin and candidates it is
   record IsLike (x y : ℕ) : Type 0 where
     pub origin : (object_of (fresh_of s o) x).origin ≡ (object_of s y).origin
     pub candidates : (object_of (fresh_of s o) x).candidates ≡ (object_of s y).candidates
-    pub copied : copied_from s o x ≡ y
+    pub copied : copied_from o n x ≡ y
 
   like-fresh : IsLike n o
   like-fresh = record { origin = ap (λ z. z.origin) object-fresh; candidates = ap (λ z. z.candidates) object-fresh; copied = copied-fresh }

@@ -16,7 +16,7 @@ use Rattle.rf_problem.specs.declared.problem.Problem.{Problem}
 use Rattle.rf_problem.specs.declared.symbol.Symbol.TheVariants.{Reference}
 use Rattle.rf_state.specs.State.{State, by_classes, fact, is_at, merged_at, object_of, some_candidate, told, told_back}
 
-assoc : (a b v : Truth) → merge a (merge b v) ≡ merge (merge a b) v
+pub assoc : (a b v : Truth) → merge a (merge b v) ≡ merge (merge a b) v
 assoc a b v = search rules
 
 exchange : (a b c : Truth) → merge a (merge b c) ≡ merge b (merge a c)
@@ -32,9 +32,16 @@ into_both t b c v = search rules
 same_opposites : (a b c d : Bool) → a ≡ d → b ≡ c → (if a && b then Unknown else False) ≡ (if c && d then Unknown else False)
 same_opposites a b c d e f = search rules
 
+-- which edge is at a place
+pub numbers-from_is_at : (r a b k x y : ℕ) → is_at r a b k x y ≡ true → (k ≡ r) × (x ≡ a) × (y ≡ b)
+numbers-from_is_at r a b k x y e =
+    let parts = and_parts (k == r) (x == a && y == b) e in
+    let ends = and_parts (x == a) (y == b) parts.1 in
+    (eqb-true k r parts.0, eqb-true x a ends.0, eqb-true y b ends.1)
+
 module _ (p : Problem) where
   -- the opposite of a reference, where it has one
-  opposite : (r q : ℕ) → (reference_at p.references r).opposite ≡ Some q → AreMirrored p.references r q
+  pub opposite : (r q : ℕ) → (reference_at p.references r).opposite ≡ Some q → AreMirrored p.references r q
   opposite r q e = elim (cases_lt r (length p.references)) [
     | inl l ↦ p.references_fit.mirrored r l q e
     | inr past ↦ (let none : reference_at p.references r ≡ no_reference = get_or_past p.references r no_reference past in
@@ -72,12 +79,6 @@ module _ (p : Problem) where
     is_at-own : is_at r a b r a b ≡ true
     is_at-own = and_from (r == r) (a == a && b == b) (eq-eqb r r refl) (and_from (a == a) (b == b) (eq-eqb a a refl) (eq-eqb b b refl))
 
-    numbers-from_is_at : (k x y : ℕ) → is_at r a b k x y ≡ true → (k ≡ r) × (x ≡ a) × (y ≡ b)
-    numbers-from_is_at k x y e =
-        let parts = and_parts (k == r) (x == a && y == b) e in
-        let ends = and_parts (x == a) (y == b) parts.1 in
-        (eqb-true k r parts.0, eqb-true x a ends.0, eqb-true y b ends.1)
-
     -- at the edge itself, whatever its reference's opposite is
     at_edge : (o : Option ℕ) → fact_with after o r a b ≡ merge (fact_with s o r a b) v
     at_edge None = let t = told-at r a b is_at-own in rw t (into_first (told p s r a b) Unknown (by_classes p s r a b) v)
@@ -97,14 +98,14 @@ module _ (p : Problem) where
         → (((reference_at p.references r).opposite ≡ Some k) × (x ≡ b) × (y ≡ a) → ⊥) → told_back p after o x y ≡ told_back p s o x y
     back-off k x y None e other = refl
     back-off k x y (Some q) e other = told-off q y x (false_from_ne_true (is_at r a b q y x) (λ t.
-        let at = numbers-from_is_at q y x t in
+        let at = numbers-from_is_at r a b q y x t in
         let m = opposite k q e in
         other (subst (λ z. (reference_at p.references z).opposite ≡ Some k) at.0 m.back, at.2, at.1)))
 
     pub fact-off : (k x y : ℕ) → ((k ≡ r) × (x ≡ a) × (y ≡ b) → ⊥)
         → (((reference_at p.references r).opposite ≡ Some k) × (x ≡ b) × (y ≡ a) → ⊥) → fact p after k x y ≡ fact p s k x y
     fact-off k x y here back =
-        let t = told-off k x y (false_from_ne_true (is_at r a b k x y) (λ e. here (numbers-from_is_at k x y e))) in
+        let t = told-off k x y (false_from_ne_true (is_at r a b k x y) (λ e. here (numbers-from_is_at r a b k x y e))) in
         let u = back-off k x y (reference_at p.references k).opposite refl back in
         ap₂ (λ m n. merge m (merge n (by_classes p s k x y))) t u
 

@@ -1,9 +1,14 @@
-pub mod Candidates
 pub mod Roots
 pub mod RootLemmas
 pub mod Keys
 pub mod CopyLemmas
 pub mod ClassLemmas
 pub mod ValueLemmas
+pub mod NonFalse
 pub mod FactLemmas
 pub mod EditLemmas
+pub mod ListLemmas
+pub mod NamedLemmas
+pub mod AssertedLemmas
+pub mod EndLemmas
+pub mod IndexLemmas

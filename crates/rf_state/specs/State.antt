@@ -9,12 +9,8 @@ use Rattle.rf_values.specs.declared.count.Count.{Count}
 use Rattle.rf_values.specs.declared.truth.Truth.{Truth}
 use Rattle.rf_values.specs.declared.truth.Truth.TheVariants.{False, Unknown}
 use Rattle.rf_problem.specs.Asserted.{admitted, asserted}
-use Rattle.rf_problem.specs.Classes.{class_at, is_below, is_concrete}
+use Rattle.rf_problem.specs.Classes.{is_below, is_concrete, may_have_class}
 use Rattle.rf_problem.specs.Parts.{object_at as declared_at, reference_at}
-use Rattle.rf_problem.specs.declared.object.ObjectKind.{ObjectKind}
-use Rattle.rf_problem.specs.declared.object.ObjectKind.TheVariants.{Plain, Atom, LiteralOf}
-use Rattle.rf_problem.specs.declared.object.ObjectName.{ObjectName}
-use Rattle.rf_problem.specs.declared.object.ObjectName.TheVariants.{Named, NewOf}
 use Rattle.rf_problem.specs.declared.problem.Problem.{Problem}
 use Rattle.rf_problem.specs.declared.symbol.Symbol.TheVariants.{Class, Reference}
 use Rattle.rf_state.specs.declared.object.Object.{Object}
@@ -60,18 +56,12 @@ fact p s r a b = merge (told p s r a b) (merge (told_back p s (reference_at p.re
 abbrev pub keeps_asserted : Problem → ℕ → ℕ → ℕ → Bool
 keeps_asserted p o c k = keeps (asserted p (Class k) (o ∷ [])) (is_below p.classes c k)
 
--- whether the nodes of an object of this name and kind may have class c
-abbrev pub may_be : Problem → ObjectName → ObjectKind → ℕ → Bool
-may_be p (NewOf k) kind c = c == k
-may_be p (Named name) (LiteralOf e) c = c == e
-may_be p (Named name) Plain c = not (class_at p.classes c).is_enum
-may_be p (Named name) Atom c = not (class_at p.classes c).is_enum
-
--- whether they may in the root: the class is concrete, and keeps what is asserted of each class
+-- whether the nodes of object o may have class c in the root: the class is concrete, one that such an object may have, and keeps
+-- what is asserted of each class
 abbrev pub is_candidate : Problem → ℕ → ℕ → Bool
 is_candidate p o c =
     is_concrete p.classes c
-    && (may_be p (declared_at p.objects o).name (declared_at p.objects o).kind c && all_below (length p.classes) (keeps_asserted p o c))
+    && (may_have_class p.classes (declared_at p.objects o).name (declared_at p.objects o).kind c && all_below (length p.classes) (keeps_asserted p o c))
 
 -- the state in which nothing was added: an object for each of the problem's, with the count that it admits and each candidate
 pub record IsRoot (p : Problem) (s : State) : Type 0 where
@@ -104,9 +94,9 @@ narrowed s o count = with_object s o (record (object_of s o) { count = meet (obj
 abbrev pub kept_to : State → ℕ → ClassSet → State
 kept_to s o set = with_object s o (record (object_of s o) { candidates = intersection (object_of s o).candidates set })
 
--- the object whose facts object x of the state with a fresh object of o has
-abbrev pub copied_from : State → ℕ → ℕ → ℕ
-copied_from s o x = if x == length s.objects then o else x
+-- the object whose facts object x has, where object n has those of object o
+abbrev pub copied_from : ℕ → ℕ → ℕ → ℕ
+copied_from o n x = if x == n then o else x
 
 -- the state with a fresh object of o: one node more of its origin and candidates, which stands in each added fact in which o
 -- does; o has one node less
@@ -114,5 +104,5 @@ abbrev pub fresh_of : State → ℕ → State
 fresh_of s o = record {
   objects = slice_set s.objects o (record (object_of s o) { count = less_one (object_of s o).count })
       ++ record (object_of s o) { count = record { lo = 1; hi = Some 1 } } ∷ [];
-  added = λ r a b. s.added r (copied_from s o a) (copied_from s o b);
+  added = λ r a b. s.added r (copied_from o (length s.objects) a) (copied_from o (length s.objects) b);
 }

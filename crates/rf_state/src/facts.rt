@@ -1,12 +1,15 @@
 //! What is read of a state.
 
+use rf_evaluate::Elements;
 use rf_problem::Problem;
 use rf_values::{ClassSet, Count, Truth};
 
 /// A state of a problem, as it is read. Each call takes constant time or a few look-ups.
 pub trait Facts {
-    ghost use Rattle.std.specs.Prelude.{◌≡◌, ◌<◌, length};
+    ghost use Rattle.std.specs.Prelude.{◌≡◌, ◌<◌, ℕ, length, false, true};
+    ghost use Rattle.rf_values.specs.declared.truth.Truth.TheVariants.{False};
     ghost use Rattle.rf_problem.specs.declared.problem.Problem.{Problem};
+    ghost use Rattle.rf_evaluate.specs.Elements.{AreBelow, includes};
     ghost use Rattle.rf_state.specs.State.{State, fact, object_of};
 
     ghost problem: { Self → Problem };
@@ -42,4 +45,25 @@ pub trait Facts {
         requires from { a < length (state self.now).objects }
         requires to { b < length (state self.now).objects }
         ensures { result ≡ fact (problem self.now) (state self.now) r a b };
+
+    /// The objects that come from an object of the problem, perhaps among others.
+    fn from_origin(&self, origin: u64) -> Elements<'_>
+        ensures complete { (o : ℕ) → o < length (state self.now).objects → (object_of (state self.now) o).origin ≡ origin → includes result o ≡ true }
+        ensures below { AreBelow (length (state self.now).objects) result };
+
+    /// The objects to which an edge of a reference may lead from an object, perhaps among others: of each
+    /// other object it is known that none leads there. They are few where assertions say that there are no
+    /// edges but those that are named.
+    fn ends_from(&self, r: u32, a: u64) -> Elements<'_>
+        requires reference { r < length (problem self.now).references }
+        requires from { a < length (state self.now).objects }
+        ensures complete { (b : ℕ) → b < length (state self.now).objects → includes result b ≡ false → fact (problem self.now) (state self.now) r a b ≡ False }
+        ensures below { AreBelow (length (state self.now).objects) result };
+
+    /// The objects from which an edge of a reference may lead to an object, perhaps among others.
+    fn ends_into(&self, r: u32, b: u64) -> Elements<'_>
+        requires reference { r < length (problem self.now).references }
+        requires to { b < length (state self.now).objects }
+        ensures complete { (a : ℕ) → a < length (state self.now).objects → includes result a ≡ false → fact (problem self.now) (state self.now) r a b ≡ False }
+        ensures below { AreBelow (length (state self.now).objects) result };
 }

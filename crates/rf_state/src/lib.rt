@@ -2,16 +2,22 @@
 //! them.
 #![tactic(auto)]
 
+mod class_sets;
 mod copies;
+mod evaluator;
 mod facts;
 mod laws;
+mod lists;
+mod named_ends;
 mod object;
 mod root;
 mod state;
-mod value;
+mod stated;
+mod view;
 
+pub use evaluator::{Evaluator, evaluate};
 pub use facts::Facts;
 pub use laws::{fact_law, fresh_law, keep_law, narrow_law, root_law, value_law};
 pub use object::Object;
 pub use state::State;
-pub use value::evaluate;
+pub use view::{Edit, View};

@@ -2,10 +2,10 @@
 
 ghost use Rattle.std.specs.Prelude.{◌≡◌, ◌<◌, ◌&&◌, ◌==◌, ℕ, length, IfOk};
 ghost use Rattle.std.specs.FinSet.{contains};
-ghost use Rattle.rf_problem.specs.Classes.{is_concrete};
+ghost use Rattle.rf_problem.specs.Classes.{is_concrete, may_have_class};
 ghost use Rattle.rf_values.specs.Truth.{keeps};
 ghost use Rattle.rf_state.specs.Root.{AreOrdinary, AreRootObjects};
-ghost use Rattle.rf_state.specs.State.{is_candidate, may_be};
+ghost use Rattle.rf_state.specs.State.{is_candidate};
 
 use crate::Object;
 use rf_problem::{ObjectDecl, ObjectKind, ObjectName, Problem, Symbol};
@@ -41,7 +41,7 @@ fn just(problem: &Problem, class: u32) -> ClassSet
 fn possible(problem: &Problem, ordinary: ClassSet, object: &ObjectDecl) -> ClassSet
     requires { AreOrdinary problem.now ordinary }
     ensures { (c : ℕ) → contains result c
-        ≡ (is_concrete problem.now.classes c && may_be problem.now object.now.name object.now.kind c) }
+        ≡ (is_concrete problem.now.classes c && may_have_class problem.now.classes object.now.name object.now.kind c) }
 {
     match &object.name {
         ObjectName::NewOf(class) => just(problem, *class),

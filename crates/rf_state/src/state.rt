@@ -1,16 +1,16 @@
-//! A state, and what is read of it.
+//! A state.
 
-ghost use Rattle.std.specs.Prelude.{◌≡◌, ◌<◌, length, IfOk};
-ghost use Rattle.rf_state.specs.Meaning.{added_at, meaning};
-ghost use Rattle.rf_state.specs.State.{IsRoot, by_classes, object_of, some_candidate, told, told_back};
+ghost use Rattle.std.specs.Option.{ForSome};
+ghost use Rattle.rf_state.specs.NamedEnds.{IsIndex};
 
 mod edits;
+mod made;
+mod reads;
 
-use crate::root::root_objects;
-use crate::{Facts, Object};
-use rf_problem::{Problem, Symbol};
-use rf_values::{ClassSet, Count, Truth};
-use std::alloc::{AllocError, Global};
+use crate::Object;
+use crate::named_ends::NamedEnds;
+use rf_problem::Problem;
+use rf_values::Truth;
 use std::collections::BTreeMap;
 
 /// A state of a problem.
@@ -20,134 +20,7 @@ pub struct State<'p> {
     objects: Vec<Object>,
     // For a reference and two objects what was added, where that isn't unknown.
     added: BTreeMap<(u32, u64, u64), Truth>,
-}
-
-/// What a map has of a reference and two objects.
-fn added_at(added: &BTreeMap<(u32, u64, u64), Truth>, r: u32, a: u64, b: u64) -> Truth
-    ensures { result ≡ added_at added.now r a b }
-{
-    match added.get(&(r, a, b)) {
-        Some(truth) => *truth,
-        None => Truth::Unknown,
-    }
-}
-
-impl<'p> State<'p> {
-    /// The state in which nothing was added.
-    pub fn root(alloc: Global, problem: &'p Problem) -> Result<State<'p>, AllocError>
-        ensures problem { IfOk result (λ s. s.problem.now ≡ problem.now) }
-        ensures root { IfOk result (λ s. IsRoot problem.now (meaning s)) }
-    {
-        let objects = root_objects(alloc, problem)?;
-        Ok(State {
-            problem,
-            objects,
-            added: BTreeMap::new(alloc),
-        })
-    }
-
-    /// The same state once more.
-    pub fn copy(&self, alloc: Global) -> Result<State<'p>, AllocError>
-        ensures problem { IfOk result (λ s. s.problem.now ≡ self.now.problem.now) }
-        ensures same { IfOk result (λ s. meaning s ≡ meaning self.now) }
-    {
-        let mut objects = Vec::with_capacity(alloc, self.objects.len())?;
-        objects.extend_from_slice(&self.objects)?;
-        let added = self.added.clone()?;
-        Ok(State {
-            problem: self.problem,
-            objects,
-            added,
-        })
-    }
-}
-
-impl State<'_> {
-    fn object(&self, o: u64) -> &Object
-        requires { o < length self.now.objects.items }
-        ensures { result.now ≡ object_of (meaning self.now) o }
-    {
-        &self.objects[o as usize]
-    }
-
-    // What is known of an edge by assertions and by what was added.
-    fn told(&self, r: u32, a: u64, b: u64) -> Truth
-        requires from { a < length self.now.objects.items }
-        requires to { b < length self.now.objects.items }
-        ensures { result ≡ told self.now.problem.now (meaning self.now) r a b }
-    {
-        let origins = [self.object(a).origin, self.object(b).origin];
-        let asserted = self.problem.asserted(Symbol::Reference(r), &origins);
-        asserted.merge(added_at(&self.added, r, a, b))
-    }
-
-    // What is known of it by the opposite.
-    fn told_back(&self, opposite: Option<u32>, a: u64, b: u64) -> Truth
-        requires from { a < length self.now.objects.items }
-        requires to { b < length self.now.objects.items }
-        ensures { result ≡ told_back self.now.problem.now (meaning self.now) opposite a b }
-    {
-        match opposite {
-            Some(q) => self.told(q, b, a),
-            None => Truth::Unknown,
-        }
-    }
-
-    // Whether some class that the nodes of an object may have is below this class.
-    fn some_candidate(&self, o: u64, class: u32) -> bool
-        requires object { o < length self.now.objects.items }
-        requires class { class < length self.now.problem.now.classes }
-        ensures { result ≡ some_candidate self.now.problem.now (meaning self.now) o class }
-    {
-        let below = self.problem.classes.below(class);
-        !self.object(o).candidates.both(below).is_empty()
-    }
-
-    // What is known of an edge by the classes of both objects.
-    fn by_classes(&self, r: u32, a: u64, b: u64) -> Truth
-        requires reference { r < length self.now.problem.now.references }
-        requires from { a < length self.now.objects.items }
-        requires to { b < length self.now.objects.items }
-        ensures { result ≡ by_classes self.now.problem.now (meaning self.now) r a b }
-    {
-        let reference = self.problem.reference(r);
-        if self.some_candidate(a, reference.source) && self.some_candidate(b, reference.target) {
-            Truth::Unknown
-        } else {
-            Truth::False
-        }
-    }
-}
-
-impl Facts for State<'_> {
-    ghost problem = { λ s. s.problem.now };
-
-    ghost state = { meaning };
-
-    fn problem(&self) -> &Problem {
-        self.problem
-    }
-
-    fn objects(&self) -> u64 {
-        self.objects.len() as u64
-    }
-
-    fn origin(&self, o: u64) -> u64 {
-        self.object(o).origin
-    }
-
-    fn count(&self, o: u64) -> Count {
-        self.object(o).count
-    }
-
-    fn candidates(&self, o: u64) -> ClassSet {
-        self.object(o).candidates
-    }
-
-    fn fact(&self, r: u32, a: u64, b: u64) -> Truth {
-        let opposite = self.problem.reference(r).opposite;
-        let back = self.told_back(opposite, a, b);
-        let told = self.told(r, a, b);
-        told.merge(back.merge(self.by_classes(r, a, b)))
-    }
+    // The ends that assertions and added facts name together, as long as no object is fresh.
+    named: Option<NamedEnds>,
+    ghost index: { ForSome named (λ ends. IsIndex problem.now objects.items added ends) },
 }

@@ -1,16 +1,40 @@
 //! What changes a state.
 
 ghost use Rattle.std.specs.Prelude.{◌≡◌, ◌≢◌, ◌<◌, Some, length, IfOk, OnOk, OnErr};
+ghost use Rattle.std.specs.Option.{ForSome};
+ghost use Rattle.rf_state.specs.Added.{Added, added_at};
+ghost use Rattle.rf_state.specs.NamedEnds.{AreAdded, AreSameBut};
 ghost use Rattle.rf_state.specs.Meaning.{meaning};
 ghost use Rattle.rf_state.specs.State.{fresh_of, kept_to, merged_at, narrowed, object_of};
 
-use super::{State, added_at};
+use super::State;
+use super::reads::added_at;
 use crate::Object;
 use crate::copies::{Fresh, copies};
 use rf_values::{ClassSet, Count, Truth};
 use std::alloc::AllocError;
 
 impl State<'_> {
+    // Names the ends of an edge, of which this was added.
+    fn name(&mut self, r: u32, a: u64, b: u64, before: Truth) -> Result<(), AllocError>
+        requires reference { r < length self.old.problem.now.references }
+        requires from { a < length (meaning self.old).objects }
+        requires to { b < length (meaning self.old).objects }
+        requires before { before ≡ added_at self.old.added r a b }
+        ensures problem { self.new.problem.now ≡ self.old.problem.now }
+        ensures objects { self.new.objects ≡ self.old.objects }
+        ensures added { self.new.added ≡ self.old.added }
+        ensures named { OnOk result (ForSome self.new.named (λ ends. (after : Added)
+            → AreSameBut r a b self.old.added after → AreAdded self.old.problem.now after ends)) }
+    {
+        if before == Truth::Unknown {
+            if let Some(named) = &mut self.named {
+                named.name_edge(self.problem, r, Some(a), Some(b))?;
+            }
+        }
+        Ok(())
+    }
+
     /// Merges a truth into what was added of an edge.
     pub fn merge(&mut self, r: u32, a: u64, b: u64, v: Truth) -> Result<(), AllocError>
         requires reference { r < length self.old.problem.now.references }
@@ -23,6 +47,7 @@ impl State<'_> {
         let before = added_at(&self.added, r, a, b);
         let after = before.merge(v);
         if after != before {
+            self.name(r, a, b, before)?;
             self.added.insert((r, a, b), after)?;
         }
         Ok(())
@@ -71,6 +96,7 @@ impl State<'_> {
             Fresh { number, of: o },
         )?;
         let object = *self.object(o);
+        self.named = None;
         self.objects.push(Object {
             count: Count { lo: 1, hi: Some(1) },
             ..object

@@ -1,9 +1,9 @@
 use Rattle.std.proofs.Common.{◌≡◌, ◌∙◌, ℕ, Some, [], ◌∷◌, ◌++◌, length, slice_set, ap, ap₂, arith}
 use Rattle.std.proofs.lemmas.List.{set-append_left}
 use Rattle.rf_values.specs.Count.{less_one}
-use Rattle.rf_state.specs.Copies.{stands_for}
-use Rattle.rf_state.specs.Meaning.{added_at, meaning}
-use Rattle.rf_state.specs.State.{object_of}
+use Rattle.rf_state.specs.Added.{added_at}
+use Rattle.rf_state.specs.Meaning.{meaning}
+use Rattle.rf_state.specs.State.{copied_from, object_of}
 use Rattle.rf_state.specs.declared.object.Object.{Object}
 use Rattle.rf_state.proofs.state.State.fresh.Goals as goal
 
@@ -27,5 +27,5 @@ returns-clause-fresh c =
       objects = objects i;
       added = λ r x y.
           (c.in_ok-added.ensures r x y
-          ∙ ap (λ (n : ℕ). added_at old.added r (stands_for c.args.o n x) (stands_for c.args.o n y)) number) i;
+          ∙ ap (λ (n : ℕ). added_at old.added r (copied_from c.args.o n x) (copied_from c.args.o n y)) number) i;
     }

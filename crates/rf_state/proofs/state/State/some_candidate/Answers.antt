@@ -1,12 +1,10 @@
-use Rattle.std.proofs.Common.{◌∙◌, ap, ap₂, ◌&&◌}
+use Rattle.std.proofs.Common.{◌∙◌, ◌&&◌, ap, length}
 use Rattle.std.specs.FinSet.{contains}
-use Rattle.rf_state.specs.Meaning.{meaning}
+use Rattle.rf_finite.specs.Range.{some_below}
+use Rattle.rf_problem.specs.Classes.{is_below}
 use Rattle.rf_state.specs.declared.object.Object.{Object}
-use Rattle.rf_state.proofs.Candidates.{some_candidate-from_set}
 use Rattle.rf_state.proofs.state.State.some_candidate.Goals as goal
 
 pub returns : goal.returns
-returns c = some_candidate-from_set c.args.self.now.problem.now (meaning c.args.self.now) c.args.o c.args.class c.both.result c.is_empty.result c.requires.class
-    (λ d. c.both.ensures.members d
-    ∙ ap₂ (λ b e. b && e) (ap (λ (x : Object). contains x.candidates d) c.object.ensures) (c.below-below.ensures d))
-    c.is_empty.ensures.members
+returns c = c.some_below.ensures
+    ∙ ap (λ (x : Object). some_below (length c.args.self.now.problem.now.classes) (λ d. contains x.candidates d && is_below c.args.self.now.problem.now.classes d c.args.class)) c.object.ensures

@@ -1,9 +1,0 @@
-use Rattle.rf_problem.specs.Classes.{is_below}
-use Rattle.rf_state.proofs.ClassLemmas.{empty-some_below}
-use Rattle.std.specs.Prelude.{length}
-use Rattle.rf_state.proofs.value.some_below.Goals as goal
-
-pub returns : goal.returns
-returns c = empty-some_below (length c.args.problem.now.classes) c.args.classes c.args.numbers c.both-declared.result c.below.result c.both.result
-    (λ d. is_below c.args.problem.now.classes d c.args.top) c.requires.numbers c.both-declared.ensures.members c.below.ensures
-    c.is_empty.result c.is_empty.ensures.members c.both.ensures.members
