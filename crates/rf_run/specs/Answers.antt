@@ -5,7 +5,7 @@ use Rattle.rf_graph.specs.Violations.{IsVerdict, Sat}
 use Rattle.rf_graph.specs.declared.graph.Graph.{Graph}
 use Rattle.rf_graph.specs.declared.verdict.Verdict.{Verdict}
 use Rattle.rf_state.specs.State.{IsRoot, State}
-use Rattle.rf_valuation.specs.Valuation.{valuation}
+use Rattle.rf_valuation.specs.Valuation.{IsValuation}
 use Rattle.rf_words.specs.declared.request.Command.{Command}
 use Rattle.rf_words.specs.declared.request.Command.TheVariants.{Check, Evaluate}
 use Rattle.rf_run.specs.declared.end.Reply.{Reply}
@@ -27,7 +27,7 @@ pub record AnswersCheck (p : Problem) (second : List ℕ) (reply : Reply) : Type
 pub record AnswersEvaluate (p : Problem) (reply : Reply) : Type 0 where
   pub root : State
   pub is_root : IsRoot p root
-  pub text : reply.text ≡ valuation p root
+  pub text : IsValuation p root reply.text
   pub sign : reply.sign ≡ Yes
 
 -- the answer of a command on its problem and the bytes of its second file
@@ -45,5 +45,5 @@ IsRightVerdict p g Unfinished = ⊥
 -- what an answer promises, in the user's words
 abbrev pub IsRight : Command → Problem → List ℕ → Reply → Type 0
 IsRight (Check file graph) p second reply = (g : Graph) → IsDrawn second p g → IsRightVerdict p g reply.sign
-IsRight (Evaluate file) p second reply = (s : State) → IsRoot p s → reply.text ≡ valuation p s
+IsRight (Evaluate file) p second reply = (s : State) → IsRoot p s → IsValuation p s reply.text
 IsRight _ p second reply = ⊥

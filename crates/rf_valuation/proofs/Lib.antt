@@ -1,2 +1,4 @@
 pub mod NameLemmas
 pub mod LineLemmas
+pub mod SortedLemmas
+pub mod TupleLemmas

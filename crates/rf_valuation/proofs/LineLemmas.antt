@@ -1,11 +1,13 @@
 -- Texts to which the lines of values are appended, one after another.
-use Rattle.std.proofs.Common.{◌≡◌, ◌∙◌, ◌+◌, ◌-◌, ℕ, zero, suc, Bool, true, false, List, [], ◌∷◌, ◌++◌, length, refl, sym, ap, add-one, arith}
-use Rattle.std.specs.Prelude.{if◌then◌else◌}
-use Rattle.std.proofs.lemmas.List.{append_assoc, append-nil}
-use Rattle.rf_finite.specs.Ends.{within}
+use Rattle.std.proofs.Common.{◌≡◌, ◌∙◌, ◌<◌, ◌+◌, ℕ, zero, suc, List, [], ◌∷◌, ◌++◌, All, Contains, length, get_or, map, take, refl, sym, ap, subst, add-one, arith}
+use Rattle.std.proofs.lemmas.List.{append_assoc, append-nil, get_or-map, length-map, map_more}
+use Rattle.rf_values.specs.declared.truth.Truth.{Truth}
 use Rattle.rf_problem.specs.declared.problem.Problem.{Problem}
-use Rattle.rf_state.specs.State.{State, object_of}
-use Rattle.rf_valuation.specs.Valuation.{joined_below, lines_from}
+use Rattle.rf_state.specs.State.{State}
+use Rattle.rf_state.specs.StateKnown.{value}
+use Rattle.rf_state.specs.Values.{AreValues}
+use Rattle.rf_valuation.specs.Valuation.{AreLinesBelow, IsValuation, line_of, lines_of}
+use Rattle.rf_valuation.proofs.TupleLemmas.{AreNotFalse-unique}
 
 -- what is appended twice is appended once
 appended-twice :
@@ -13,57 +15,77 @@ appended-twice :
 appended-twice old between new first second was is =
     is ∙ ap (λ bytes. bytes ++ second) was ∙ append_assoc old first second
 
--- the parts below one number more
-joined-more :
-    (n : ℕ) (part : ℕ → List ℕ) (old between new : List ℕ) → between ≡ old ++ joined_below n part → new ≡ between ++ part n
-    → new ≡ old ++ joined_below (n + 1) part
-joined-more n part old between new was is = rw add-one (appended-twice old between new (joined_below n part) (part n) was is)
+module _ (p : Problem) (s : State) (q : ℕ) where
+  -- the lines at tuples and at one more
+  lines_of-push :
+      (tuples : List (List ℕ)) (t : List ℕ)
+      → lines_of p s q (tuples ++ t ∷ []) ≡ lines_of p s q tuples ++ line_of p q t (value p s q t)
+  lines_of-push [] t = append-nil (line_of p q t (value p s q t))
+  lines_of-push (u ∷ tuples) t =
+      let first = line_of p q u (value p s q u) in
+      ap (λ lines. first ++ lines) (lines_of-push tuples t)
+      ∙ sym (append_assoc first (lines_of p s q tuples) (line_of p q t (value p s q t)))
 
--- and where this part is empty
-joined-same :
-    (n : ℕ) (part : ℕ → List ℕ) (old between : List ℕ) → between ≡ old ++ joined_below n part → part n ≡ []
-    → between ≡ old ++ joined_below (n + 1) part
-joined-same n part old between was is = joined-more n part old between between was (sym (ap (λ bytes. between ++ bytes) is ∙ append-nil between))
+  -- the line of one value more of a list, after those before it
+  pub lines-more :
+      (values : List (List ℕ × Truth)) (n : ℕ) (e : List ℕ × Truth) (old between new : List ℕ) → AreValues p s q values → n < length values
+      → e ≡ get_or values n e
+      → between ≡ old ++ lines_of p s q (map (λ (x : List ℕ × Truth). x.0) (take n values)) → new ≡ between ++ line_of p q e.0 e.1
+      → new ≡ old ++ lines_of p s q (map (λ (x : List ℕ × Truth). x.0) (take (n + 1) values))
+  lines-more values n e old between new are there at was is =
+      let first = λ (x : List ℕ × Truth). x.0 in
+      let front = map first (take n values) in
+      let value_there : e.1 ≡ value p s q e.0 = subst (λ (x : List ℕ × Truth). x.1 ≡ value p s q x.0) (sym at) (are.each n e there) in
+      let next : map first (take (n + 1) values) ≡ front ++ e.0 ∷ [] =
+      map_more first values n e there ∙ ap (λ (x : List ℕ × Truth). front ++ x.0 ∷ []) (sym at) in
+      let more : lines_of p s q (map first (take (n + 1) values)) ≡ lines_of p s q front ++ line_of p q e.0 e.1 =
+      ap (lines_of p s q) next ∙ (lines_of-push front e.0 ∙ ap (λ (v : Truth). lines_of p s q front ++ line_of p q e.0 v) (sym value_there)) in
+      appended-twice old between new (lines_of p s q front) (line_of p q e.0 e.1) was is ∙ ap (λ bytes. old ++ bytes) (sym more)
 
--- the lines at the tuples that go on from t with object o
-abbrev pub lines_at : Problem → State → ℕ → ℕ → List ℕ → ℕ → List ℕ
-lines_at p s q k t o = if within 1 (object_of s o).count.hi then lines_from p s q k (t ++ o ∷ []) else []
+  -- a value's tuple is of objects
+  pub objects-of_value :
+      (values : List (List ℕ × Truth)) (n : ℕ) (e : List ℕ × Truth) → AreValues p s q values → n < length values → e ≡ get_or values n e
+      → All (λ o. o < length s.objects) e.0
+  objects-of_value values n e are there at =
+      let first = λ (x : List ℕ × Truth). x.0 in
+      let has : Contains (map first values) e.0 =
+      (n, (let m = length-map values first in omega (arith, m, there)), get_or-map first values n e e.0 there ∙ ap first (sym at)) in
+      ((are.tuples.members e.0).0 has).tuple.below
 
--- with more objects to come, the lines are those with each object for the next
-lines_from-deeper :
-    (p : Problem) (s : State) (q left : ℕ) (t : List ℕ) → (left ≡ 0 → ⊥)
-    → lines_from p s q left t ≡ joined_below (length s.objects) (lines_at p s q (left - 1) t)
-lines_from-deeper p s q zero t more = absurd (more refl)
-lines_from-deeper p s q (suc k) t more =
-    let e : k ≡ suc k - 1 = omega arith in
-    ap (λ (j : ℕ). joined_below (length s.objects) (lines_at p s q j t)) e
+-- the lines of the predicates below n were appended
+abbrev pub HasLinesBelow : Problem → State → ℕ → List ℕ → List ℕ → Type 0
+HasLinesBelow p s n old new = (text : List ℕ) × AreLinesBelow p s n text × (new ≡ old ++ text)
 
--- the lines so far, and those of an object that may have a node
-pub lines-one :
-    (p : Problem) (s : State) (q k : ℕ) (t : List ℕ) (o : ℕ) (may : Bool) (tuple old before between now : List ℕ)
-    → before ≡ old ++ joined_below o (lines_at p s q k t) → may ≡ within 1 (object_of s o).count.hi → may ≡ true → tuple ≡ t ++ o ∷ []
-    → between ≡ before ++ lines_from p s q k tuple → now ≡ between
-    → now ≡ old ++ joined_below (o + 1) (lines_at p s q k t)
-lines-one p s q k t o may tuple old before between now was tested there longer is same =
-    let lines : lines_at p s q k t o ≡ lines_from p s q k (t ++ o ∷ []) =
-    ap (λ (b : Bool). if b then lines_from p s q k (t ++ o ∷ []) else []) (sym tested ∙ there) in
-    same ∙ joined-more o (lines_at p s q k t) old before between was (is ∙ ap (λ bytes. before ++ bytes) (ap (lines_from p s q k) longer ∙ sym lines))
+-- none of no predicates
+pub below-none : (p : Problem) (s : State) (old : List ℕ) → HasLinesBelow p s 0 old old
+below-none p s old = ([], refl, sym (append-nil old))
 
--- and those of one that may not, which are none
-pub lines-none :
-    (p : Problem) (s : State) (q k : ℕ) (t : List ℕ) (o : ℕ) (may : Bool) (old before now : List ℕ)
-    → before ≡ old ++ joined_below o (lines_at p s q k t) → may ≡ within 1 (object_of s o).count.hi → may ≡ false → now ≡ before
-    → now ≡ old ++ joined_below (o + 1) (lines_at p s q k t)
-lines-none p s q k t o may old before now was tested empty same =
-    same
-    ∙ joined-same o (lines_at p s q k t) old before was
-    (ap (λ (b : Bool). if b then lines_from p s q k (t ++ o ∷ []) else []) (sym tested ∙ empty))
+-- and those of one predicate more
+pub below-more :
+    (p : Problem) (s : State) (q : ℕ) (values : List (List ℕ × Truth)) (old between new : List ℕ) → HasLinesBelow p s q old between
+    → AreValues p s q values → new ≡ between ++ lines_of p s q (map (λ (x : List ℕ × Truth). x.0) values) → HasLinesBelow p s (q + 1) old new
+below-more p s q values old between new (before, below, was) are is =
+    let tuples = map (λ (x : List ℕ × Truth). x.0) values in
+    let lines = lines_of p s q tuples in
+    let more : AreLinesBelow p s (suc q) (before ++ lines) = (before, tuples, below, are.tuples, refl) in
+    (before ++ lines, rw add-one more, appended-twice old between new before lines was is)
 
--- where there are no more objects, these are all lines
-pub lines-all :
-    (p : Problem) (s : State) (q left : ℕ) (t : List ℕ) (o : ℕ) (old now : List ℕ) → (left ≡ 0 → ⊥) → o ≡ length s.objects
-    → now ≡ old ++ joined_below o (lines_at p s q (left - 1) t)
-    → now ≡ old ++ lines_from p s q left t
-lines-all p s q left t o old now more ended was =
-    was
-    ∙ ap (λ bytes. old ++ bytes) (ap (λ n. joined_below n (lines_at p s q (left - 1) t)) ended ∙ sym (lines_from-deeper p s q left t more))
+-- there is one text of them
+pub AreLinesBelow-unique :
+    (p : Problem) (s : State) (n : ℕ) (text other : List ℕ) → AreLinesBelow p s n text → AreLinesBelow p s n other → text ≡ other
+AreLinesBelow-unique p s zero text other are same = are ∙ sym same
+AreLinesBelow-unique p s (suc q) text other (before, tuples, below, found, is) (front, others, beside, all, was) =
+    let first : before ≡ front = AreLinesBelow-unique p s q before front below beside in
+    let rest : tuples ≡ others = AreNotFalse-unique p s q tuples others found all in
+    is
+    ∙ ap (λ bytes. bytes ++ lines_of p s q tuples) first
+    ∙ ap (λ (ts : List (List ℕ)). front ++ lines_of p s q ts) rest
+    ∙ sym was
+
+-- the lines of all predicates were appended to nothing
+pub whole-from_empty :
+    (p q : Problem) (s : State) (empty text : List ℕ) → q ≡ p → empty ≡ [] → HasLinesBelow q s (length q.predicates) empty text
+    → IsValuation p s text
+whole-from_empty p q s empty text same none (lines, are, is) =
+    let all : text ≡ lines = is ∙ ap (λ bytes. bytes ++ lines) none in
+    subst (λ (r : Problem). IsValuation r s text) same (subst (IsValuation q s) (sym all) are)

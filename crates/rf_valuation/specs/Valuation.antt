@@ -1,18 +1,12 @@
 -- The values of a problem's predicates in its root, as a document.
-use Rattle.std.specs.Prelude.{ℕ, zero, suc, if◌then◌else◌, List, [], ◌∷◌, ◌++◌, codes, length}
-use Rattle.rf_finite.specs.Ends.{within}
+use Rattle.std.specs.Prelude.{◌≡◌, ℕ, zero, suc, List, [], ◌∷◌, ◌++◌, codes, length}
 use Rattle.rf_values.specs.declared.truth.Truth.{Truth}
 use Rattle.rf_values.specs.declared.truth.Truth.TheVariants.{True, False, Unknown, Error}
-use Rattle.rf_problem.specs.Parts.{predicate_at}
 use Rattle.rf_problem.specs.declared.problem.Problem.{Problem}
 use Rattle.rf_graph.specs.Document.{object_name, predicate_name}
-use Rattle.rf_state.specs.State.{State, object_of}
+use Rattle.rf_state.specs.State.{State}
 use Rattle.rf_state.specs.StateKnown.{value}
-
--- the parts of the numbers below n, one after another
-abbrev pub joined_below : ℕ → (ℕ → List ℕ) → List ℕ
-joined_below zero part = []
-joined_below (suc n) part = joined_below n part ++ part n
+use Rattle.rf_state.specs.Values.{AreNotFalse}
 
 -- the names of objects, a comma and a space between each two
 abbrev pub object_names : Problem → List ℕ → List ℕ
@@ -31,12 +25,18 @@ line_of p q t Unknown = value_line p q t (codes "unknown")
 line_of p q t Error = value_line p q t (codes "error")
 line_of p q t False = []
 
--- the lines of a predicate at the tuples that go on from t with k more objects, which may have a node; in the order of tuples
-abbrev pub lines_from : Problem → State → ℕ → ℕ → List ℕ → List ℕ
-lines_from p s q zero t = line_of p q t (value p s q t)
-lines_from p s q (suc k) t =
-    joined_below (length s.objects) (λ o. if within 1 (object_of s o).count.hi then lines_from p s q k (t ++ o ∷ []) else [])
+-- the lines of a predicate at tuples of objects, one after another
+abbrev pub lines_of : Problem → State → ℕ → List (List ℕ) → List ℕ
+lines_of p s q [] = []
+lines_of p s q (t ∷ ts) = line_of p q t (value p s q t) ++ lines_of p s q ts
+
+-- the lines of the predicates below n, one after another: of each those at the tuples of objects that may have nodes at which it
+-- isn't false, in lexicographic order
+abbrev pub AreLinesBelow : Problem → State → ℕ → List ℕ → Type 0
+AreLinesBelow p s zero text = text ≡ []
+AreLinesBelow p s (suc q) text =
+    (before : List ℕ) × (tuples : List (List ℕ)) × AreLinesBelow p s q before × AreNotFalse p s q tuples × (text ≡ before ++ lines_of p s q tuples)
 
 -- the lines of all predicates, in their order
-abbrev pub valuation : Problem → State → List ℕ
-valuation p s = joined_below (length p.predicates) (λ q. lines_from p s q (predicate_at p.predicates q).arity [])
+abbrev pub IsValuation : Problem → State → List ℕ → Type 0
+IsValuation p s text = AreLinesBelow p s (length p.predicates) text

@@ -1,17 +1,13 @@
 //! The lines of the values of predicates at tuples of objects.
 
-ghost use Rattle.std.specs.Prelude.{◌≡◌, ◌<◌, ◌+◌, ◌++◌, ◌∷◌, [], All, OnOk, length};
-ghost use Rattle.rf_finite.specs.Ends.{within};
-ghost use Rattle.rf_problem.specs.Parts.{predicate_at};
-ghost use Rattle.rf_state.specs.State.{object_of};
-ghost use Rattle.rf_state.specs.StateKnown.{value};
+ghost use Rattle.std.specs.Prelude.{◌≡◌, ◌<◌, ◌++◌, ℕ, All, List, OnOk, length, map};
+ghost use Rattle.rf_state.specs.Values.{AreValues};
 ghost use Rattle.rf_valuation.specs.Separator.{separator};
-ghost use Rattle.rf_valuation.specs.Valuation.{line_of, lines_from, object_names, valuation, value_line};
+ghost use Rattle.rf_valuation.specs.Valuation.{IsValuation, line_of, lines_of, object_names, value_line};
 
-use rf_finite::within;
 use rf_graph::{push_object, push_symbol};
 use rf_problem::{Problem, Symbol};
-use rf_state::{Facts, evaluate};
+use rf_state::{Evaluator, Facts};
 use rf_text::Text;
 use rf_values::{Truth, Tuple};
 use std::alloc::{AllocError, Global};
@@ -85,76 +81,23 @@ fn push_line(
     }
 }
 
-/// Appends the line of a predicate's value at a tuple of objects.
-fn push_tuple<F: Facts>(
+/// Appends the lines of values of a predicate.
+fn push_values<F: Facts>(
     alloc: Global,
     out: &mut Text,
     facts: &F,
     predicate: u32,
-    tuple: Tuple,
+    values: &[(Tuple, Truth)],
 ) -> Result<(), AllocError>
     requires declared { predicate < length (F.problem facts.now).predicates }
-    requires arity { length tuple ≡ (predicate_at (F.problem facts.now).predicates predicate).arity }
     requires many { length (F.state facts.now).objects ≡ length (F.problem facts.now).objects }
-    requires objects { All (λ o. o < length (F.problem facts.now).objects) tuple }
-    ensures { OnOk result (out.new ≡ out.old ++ line_of
-        (F.problem facts.now) predicate tuple (value (F.problem facts.now) (F.state facts.now) predicate tuple)) }
+    requires values { AreValues (F.problem facts.now) (F.state facts.now) predicate values.now }
+    ensures { OnOk result (out.new ≡ out.old ++ lines_of (F.problem facts.now) (F.state facts.now) predicate (map (λ e. e.0) values.now)) }
 {
-    let value = evaluate(alloc, facts, predicate, tuple)?;
-    push_line(
-        alloc,
-        out,
-        facts.problem(),
-        predicate,
-        tuple.as_slice(),
-        value,
-    )
-}
-
-/// The tuple with one number more.
-fn longer(tuple: Tuple, x: u64) -> Tuple
-    requires { length tuple < 4 }
-    ensures { result ≡ tuple ++ x ∷ [] }
-{
-    let items = tuple.as_slice();
-    let mut cells = [0; 4];
-    cells[..items.len()].copy_from_slice(items);
-    cells[items.len()] = x;
-    Tuple::of(&cells[..items.len() + 1])
-}
-
-/// Whether an object may have a node.
-fn may_have_node<F: Facts>(facts: &F, o: u64) -> bool
-    requires { o < length (F.state facts.now).objects }
-    ensures { result ≡ within 1 (object_of (F.state facts.now) o).count.hi }
-{
-    within(1, facts.count(o).hi)
-}
-
-/// Appends the lines of a predicate at the tuples that go on from this one with so many more objects,
-/// which may have a node.
-#[cycle(tuples)]
-fn push_lines_from<F: Facts>(
-    alloc: Global,
-    out: &mut Text,
-    facts: &F,
-    predicate: u32,
-    tuple: Tuple,
-    left: u8,
-) -> Result<(), AllocError>
-    requires declared { predicate < length (F.problem facts.now).predicates }
-    requires arity { length tuple + left ≡ (predicate_at (F.problem facts.now).predicates predicate).arity }
-    requires many { length (F.state facts.now).objects ≡ length (F.problem facts.now).objects }
-    requires objects { All (λ o. o < length (F.problem facts.now).objects) tuple }
-    ensures { OnOk result (out.new ≡ out.old ++ lines_from (F.problem facts.now) (F.state facts.now) predicate left tuple) }
-{
-    if left == 0 {
-        return push_tuple(alloc, out, facts, predicate, tuple);
-    }
-    for o in 0..facts.objects() {
-        if may_have_node(facts, o) {
-            push_lines_from(alloc, out, facts, predicate, longer(tuple, o), left - 1)?;
-        }
+    for item in values {
+        let (tuple, value) = *item;
+        let problem = facts.problem();
+        push_line(alloc, out, problem, predicate, tuple.as_slice(), value)?;
     }
     Ok(())
 }
@@ -162,11 +105,12 @@ fn push_lines_from<F: Facts>(
 /// Appends the lines of all predicates, in their order.
 pub fn push_valuation<F: Facts>(alloc: Global, out: &mut Text, facts: &F) -> Result<(), AllocError>
     requires { length (F.state facts.now).objects ≡ length (F.problem facts.now).objects }
-    ensures { OnOk result (out.new ≡ out.old ++ valuation (F.problem facts.now) (F.state facts.now)) }
+    ensures { OnOk result ((text : List ℕ) × IsValuation (F.problem facts.now) (F.state facts.now) text × (out.new ≡ out.old ++ text)) }
 {
+    let mut evaluator = Evaluator::new(alloc, facts);
     for predicate in 0..facts.problem().predicates.len() as u32 {
-        let arity = facts.problem().predicate(predicate).arity;
-        push_lines_from(alloc, out, facts, predicate, Tuple::of(&[]), arity)?;
+        let values = evaluator.values(predicate)?;
+        push_values(alloc, out, facts, predicate, values.as_slice())?;
     }
     Ok(())
 }

@@ -1,11 +1,9 @@
-use Rattle.std.proofs.Common.{◌≡◌, ◌++◌, []}
-use Rattle.rf_problem.specs.Parts.{predicate_at}
-use Rattle.rf_valuation.specs.Valuation.{joined_below, lines_from}
+use Rattle.std.proofs.Common.{◌≡◌}
+use Rattle.rf_valuation.proofs.LineLemmas.{HasLinesBelow}
 use Rattle.rf_valuation.proofs.lines.push_valuation.Given as goal
 
 abbrev pub invariant-loop-predicate : goal.invariant-loop-predicate
-invariant-loop-predicate g l =
-    l.out
-    ≡ l.initial.out
-    ++ joined_below l.predicate
-    (λ q. lines_from (g.F.Facts.problem l.facts) (g.F.Facts.state l.facts) q (predicate_at (g.F.Facts.problem l.facts).predicates q).arity [])
+invariant-loop-predicate g l = record {
+  facts : l.evaluator.facts.now ≡ l.facts;
+  lines : HasLinesBelow (g.F.Facts.problem l.facts) (g.F.Facts.state l.facts) l.predicate l.initial.out l.out;
+}
