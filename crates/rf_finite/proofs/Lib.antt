@@ -8,3 +8,4 @@ pub mod Lists
 pub mod Repeats
 pub mod Walks
 pub mod Cycles
+pub mod TotalLemmas

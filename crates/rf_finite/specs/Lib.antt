@@ -6,3 +6,4 @@ pub mod Ends
 pub mod Sums
 pub mod Firsts
 pub mod Tuples
+pub mod Totals

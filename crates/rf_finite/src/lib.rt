@@ -7,6 +7,8 @@ mod laws;
 mod order;
 mod parts;
 mod rule;
+mod test;
+mod totals;
 mod upper_ends;
 
 pub use laws::{
@@ -16,4 +18,6 @@ pub use laws::{
 pub use order::earlier;
 pub use parts::{Parts, sum_of_ends, sum_of_parts};
 pub use rule::{Rule, first_found};
+pub use test::{Test, first_passing};
+pub use totals::{EndsTotal, sum_beside, total_of_ends};
 pub use upper_ends::{add_ends, within};

@@ -9,7 +9,8 @@ use Rattle.std.proofs.Common.{sym, ◌∙◌, ap, inl, inr, arith, lit<}
 use Rattle.std.proofs.lemmas.Bool.{cases_eq, cases_lt, lt-ltb, le-ltb, eq-eqb, ne_eqb}
 use Rattle.std.proofs.lemmas.Nat.Bits.{bit_at_lowest, bit_at-suc, bit_at-lt, same_from_bits_below}
 use Rattle.std.proofs.Math.Nat.{pow-succ'}
-use Rattle.rf_values.specs.Words.{AreWords, has_bit, marked_below, marked, number_of_bits, word_of, words_of}
+use Rattle.rf_values.specs.ClassSet.{members_below}
+use Rattle.rf_values.specs.Words.{AreWords, has_bit, marked, number_of_bits, word_of, words_of}
 
 lt-suc : (c n : ℕ) → (c ≡ n → ⊥) → nat_lt c n ≡ nat_lt c (suc n)
 lt-suc c n ne = elim (cases_lt c n) [
@@ -30,21 +31,21 @@ contains_more s false n c r rest at = rest ∙ elim (cases_eq c n) [
   | inr ne ↦ (let less = lt-suc c n ne in rw less refl)
 ]
 
-pub contains-marked_below : (words : List ℕ) (n c : ℕ) → contains (marked_below words n) c ≡ (nat_lt c n && has_bit words c)
-unfolding marked_below
-contains-marked_below words zero c = let less : nat_lt c 0 ≡ false = le-ltb c 0 (omega arith) in rw less (contains-empty nat_cmp c)
-contains-marked_below words (suc n) c =
-    contains_more (marked_below words n) (has_bit words n) n c (has_bit words c) (contains-marked_below words n c) (λ e. ap (has_bit words) (sym e))
+-- the numbers in the set are those below n that pass
+pub contains-members_below : (n : ℕ) (p : ℕ → Bool) (c : ℕ) → contains (members_below n p) c ≡ (nat_lt c n && p c)
+unfolding members_below
+contains-members_below zero p c = let less : nat_lt c 0 ≡ false = le-ltb c 0 (omega arith) in rw less (contains-empty nat_cmp c)
+contains-members_below (suc n) p c = contains_more (members_below n p) (p n) n c (p c) (contains-members_below n p c) (λ e. ap p (sym e))
 
 pub contains-marked : (words : List ℕ) (c : ℕ) → c < 256 → contains (marked words) c ≡ has_bit words c
 unfolding marked
 contains-marked words c h =
-    let less : nat_lt c 256 ≡ true = lt-ltb c 256 h in contains-marked_below words 256 c ∙ rw less refl
+    let less : nat_lt c 256 ≡ true = lt-ltb c 256 h in contains-members_below 256 (has_bit words) c ∙ rw less refl
 
 pub contains-marked_past : (words : List ℕ) (c : ℕ) → 256 ≤ c → contains (marked words) c ≡ false
 unfolding marked
 contains-marked_past words c h =
-    let less : nat_lt c 256 ≡ false = le-ltb c 256 h in contains-marked_below words 256 c ∙ rw less refl
+    let less : nat_lt c 256 ≡ false = le-ltb c 256 h in contains-members_below 256 (has_bit words) c ∙ rw less refl
 
 lowest : (b : Bool) (m : ℕ) → ((if b then 1 else 0) + 2 * m) % 2 ≡ (if b then 1 else 0)
 lowest true m = omega arith

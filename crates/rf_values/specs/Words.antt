@@ -2,8 +2,9 @@
 -- A set of numbers below 256 in four words of 64 bits, where the bit c % 64 of the word c / 64 is that of c.
 use Rattle.std.specs.Prelude.{◌≡◌, ℕ, zero, suc, ◌+◌, ◌*◌, ◌/◌, ◌%◌, ◌^◌, ◌<◌, Bool, ◌==◌, if◌then◌else◌, List, [], ◌∷◌, length, All, slice_index}
 use Rattle.std.specs.Ordering.{nat_cmp}
-use Rattle.std.specs.FinSet.{FinSet, empty, insert, contains}
+use Rattle.std.specs.FinSet.{FinSet, contains}
 use Rattle.std.specs.Int.{bit_at}
+use Rattle.rf_values.specs.ClassSet.{members_below}
 
 -- four words of 64 bits
 pub record AreWords (words : List ℕ) : Type 0 where
@@ -14,14 +15,9 @@ pub record AreWords (words : List ℕ) : Type 0 where
 abbrev pub has_bit : List ℕ → ℕ → Bool
 has_bit words c = bit_at (slice_index words (c / 64)) (c % 64) == 1
 
--- the numbers below n whose bit is 1
-unfoldable pub marked_below : List ℕ → ℕ → FinSet nat_cmp
-marked_below words zero = empty
-marked_below words (suc n) = if has_bit words n then insert (marked_below words n) n else marked_below words n
-
 -- the set that four words stand for
 unfoldable pub marked : List ℕ → FinSet nat_cmp
-marked words = marked_below words 256
+marked words = members_below 256 (has_bit words)
 
 -- the number whose bits below n are 1 where they pass
 unfoldable pub number_of_bits : ℕ → (ℕ → Bool) → ℕ

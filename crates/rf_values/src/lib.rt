@@ -5,10 +5,12 @@
 
 mod class_set;
 mod count;
+mod objects;
 mod truth;
 mod tuple;
 
 pub use class_set::{ClassSet, same_members_law};
 pub use count::{Count, count_law};
+pub use objects::Objects;
 pub use truth::{Truth, keeps_law, merge_law, order_law, pair_law};
 pub use tuple::Tuple;

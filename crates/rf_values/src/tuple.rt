@@ -25,11 +25,11 @@ impl Model for Tuple {
 
     ghost view = { λ t. take t.used t.cells };
 
-    ghost invariant = { λ t. IsPadded t.cells t.used };
+    ghost invariant = { λ t. IsPadded 4 t.cells t.used };
 
     ghost inverse = { λ xs. record { cells = padded 4 xs; used = length xs } };
 
-    ghost inverse_ok = { λ a h. λ i. record { cells = sym h.zeros i; used = length-take-padded a.cells a.used h i } };
+    ghost inverse_ok = { λ a h. λ i. record { cells = sym h.zeros i; used = length-take-padded 4 a.cells a.used h i } };
 }
 
 impl PartialEq for Tuple {
