@@ -18,7 +18,8 @@ use Rattle.rf_graph.specs.Evaluate.{holds}
 use Rattle.rf_graph.specs.First.{breaks, may_come_from}
 use Rattle.rf_graph.specs.Graph.{Fits, HasEdge, class_of, has_edge, origin_of, size_of}
 use Rattle.rf_graph.specs.Satisfied.{FitsEnds, HasContainer, IsContained, IsSatisfied, Satisfies}
-use Rattle.rf_graph.specs.Violations.{IsViolation, Sat, container_count, degree_of, is_containing, is_counted, nodes_from}
+use Rattle.rf_problem.specs.Contained.{is_containing}
+use Rattle.rf_graph.specs.Violations.{IsViolation, Sat, container_count, degree_of, is_counted, nodes_from}
 use Rattle.rf_graph.specs.declared.graph.Graph.{Graph}
 use Rattle.rf_graph.specs.declared.verdict.Violation.{Violation}
 use Rattle.rf_graph.specs.declared.verdict.Violation.TheVariants.{Class, Edge, Opposite, Degree, Containers, Cycle, Object, Asserted, Scope}

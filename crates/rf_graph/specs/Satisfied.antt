@@ -6,14 +6,14 @@ use Rattle.rf_values.specs.Count.{contains}
 use Rattle.rf_values.specs.Truth.{keeps}
 use Rattle.rf_problem.specs.Asserted.{admitted, asserted}
 use Rattle.rf_problem.specs.Classes.{IsBelow, class_at}
-use Rattle.rf_problem.specs.Contained.{is_contained_class}
+use Rattle.rf_problem.specs.Contained.{is_contained_class, is_containing}
 use Rattle.rf_problem.specs.Parts.{arity_of, object_at, reference_at, scope_at}
 use Rattle.rf_problem.specs.Valid.{is_declared}
 use Rattle.rf_problem.specs.declared.problem.Problem.{Problem}
 use Rattle.rf_problem.specs.declared.symbol.Symbol.{Symbol}
 use Rattle.rf_graph.specs.Evaluate.{holds}
 use Rattle.rf_graph.specs.Graph.{HasEdge, class_of, origin_of, size_of}
-use Rattle.rf_graph.specs.Violations.{MayHaveClass, contains_in, degree_of, is_containing, is_counted, nodes_from}
+use Rattle.rf_graph.specs.Violations.{MayHaveClass, contains_in, degree_of, is_counted, nodes_from}
 use Rattle.rf_graph.specs.declared.graph.Graph.{Graph}
 
 -- the ends of an edge of reference r are of the classes that it leads between

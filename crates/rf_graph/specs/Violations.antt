@@ -10,10 +10,11 @@ use Rattle.rf_values.specs.Count.{contains}
 use Rattle.rf_values.specs.declared.truth.Truth.{Truth}
 use Rattle.rf_values.specs.declared.truth.Truth.TheVariants.{True, False, Unknown, Error}
 use Rattle.rf_problem.specs.Asserted.{admitted, asserted}
-use Rattle.rf_problem.specs.Parts.{arity_of, is_contains, object_at, reference_at, scope_at}
-use Rattle.rf_problem.specs.Classes.{IsBelow, class_at, is_below}
-use Rattle.rf_problem.specs.Contained.{is_contained_class}
-use Rattle.rf_problem.specs.Valid.{is_declared, is_named}
+use Rattle.rf_problem.specs.Parts.{arity_of, object_at, reference_at, scope_at}
+use Rattle.rf_problem.specs.Classes.{IsBelow, class_at}
+use Rattle.rf_problem.specs.Contained.{is_contained_class, is_containing}
+use Rattle.rf_problem.specs.Counted.{counts_origin, has_scope_class}
+use Rattle.rf_problem.specs.Valid.{is_declared}
 use Rattle.rf_problem.specs.declared.class.Class.{Class as ClassDecl}
 use Rattle.rf_problem.specs.declared.object.ObjectKind.{ObjectKind}
 use Rattle.rf_problem.specs.declared.object.ObjectKind.TheVariants.{Plain, Atom, LiteralOf}
@@ -59,10 +60,6 @@ pub record IsOutOfRange (p : Problem) (g : Graph) (r x : ℕ) : Type 0 where
   pub node : x < size_of g
   pub source : IsBelow p.classes (class_of g x) (reference_at p.references r).source
   pub outside : contains (reference_at p.references r).range (degree_of g r x) ≡ false
-
--- whether reference r contains its targets
-abbrev pub is_containing : Problem → ℕ → Bool
-is_containing p r = is_contains (reference_at p.references r).kind
 
 -- how many pairs there are of a reference that contains and a node from which an edge of it leads to node z
 abbrev pub container_count : Problem → Graph → ℕ → ℕ
@@ -122,14 +119,9 @@ pub record IsBroken (p : Problem) (g : Graph) (symbol : Symbol) (t : List ℕ) :
   pub breaks : Breaks (asserted p symbol (map (origin_of g) t)) (Holds p g symbol t)
 
 -- whether a scope counts node x: its class is below the scope's, and, where only new nodes count, it comes from some `C::new`
-abbrev pub has_scope_class : Problem → Option ℕ → ℕ → Bool
-has_scope_class p None c = true
-has_scope_class p (Some k) c = is_below p.classes c k
-
 abbrev pub is_counted : Problem → Graph → Bound → ℕ → Bool
 is_counted p g s x =
-    has_scope_class p s.class (class_of g x)
-    && (not s.only_new || not (is_named (object_at p.objects (origin_of g x)).name))
+    has_scope_class p s.class (class_of g x) && counts_origin p s (origin_of g x)
 
 -- the number of nodes that scope s counts is outside its range
 pub record IsOffScope (p : Problem) (g : Graph) (s : ℕ) : Type 0 where

@@ -10,6 +10,7 @@ pub mod Depth
 pub mod Following
 pub mod HeardLemmas
 pub mod KeyLemmas
+pub mod NamedApart
 pub mod StockLemmas
 pub mod TableLemmas
 pub mod ProblemLemmas

@@ -1,9 +1,13 @@
--- Which classes a reference contains.
+-- Which references contain, and which classes they contain.
 use Rattle.std.specs.Prelude.{ℕ, Bool, ◌&&◌}
 use Rattle.std.specs.List.{list_any}
 use Rattle.rf_problem.specs.Classes.{is_below, is_concrete}
-use Rattle.rf_problem.specs.Parts.{is_contains}
+use Rattle.rf_problem.specs.Parts.{is_contains, reference_at}
 use Rattle.rf_problem.specs.declared.problem.Problem.{Problem}
+
+-- whether reference r contains its targets
+abbrev pub is_containing : Problem → ℕ → Bool
+is_containing p r = is_contains (reference_at p.references r).kind
 
 -- whether a class that nodes may have is below class d
 abbrev pub is_concrete_below : Problem → ℕ → ℕ → Bool

@@ -4,6 +4,7 @@ pub mod Classes
 pub mod Valid
 pub mod Made
 pub mod Contained
+pub mod Counted
 pub mod Merged
 pub mod Asserted
 pub mod Reading
@@ -16,6 +17,8 @@ pub mod Raised
 pub mod Cycles
 pub mod Calling
 pub mod Spoken
+pub mod Keys
 pub mod Table
 pub mod Patterns
+pub mod Noted
 pub mod Unwritten

@@ -8,11 +8,10 @@ ghost use Rattle.rf_problem.specs.Spoken.{heard_by, is_at};
 
 use crate::heard::Heard;
 use crate::pattern::Pattern;
-use crate::table::{Key, heard_at, key_of, table_of};
+use crate::table::Table;
 use crate::{Assertion, Symbol};
 use rf_text::Items;
 use std::alloc::{AllocError, Global};
-use std::collections::BTreeMap;
 use std::fmt;
 use std::marker::Model;
 use std::ops::DerefSlice;
@@ -21,7 +20,7 @@ use std::ops::DerefSlice;
 #[derive(Drop)]
 pub struct Assertions {
     list: Items<Assertion>,
-    table: BTreeMap<Key, Heard>,
+    table: Table,
 }
 
 impl Model for Assertions {
@@ -33,7 +32,7 @@ impl Model for Assertions {
 
     ghost view = { λ a. a.list };
 
-    ghost invariant = { λ a. IsTable a.list a.table };
+    ghost invariant = { λ a. IsTable a.list a.table.heard a.table.stars };
 }
 
 impl fmt::Debug for Assertions {
@@ -59,7 +58,7 @@ impl Assertions {
     pub fn of(alloc: Global, assertions: Vec<Assertion>) -> Result<Assertions, AllocError>
         ensures { IfOk result (λ made. made ≡ assertions.items) }
     {
-        let table = table_of(alloc, &assertions)?;
+        let table = Table::of(alloc, &assertions)?;
         Ok(Assertions {
             list: Items::from_vec(assertions),
             table,
@@ -77,7 +76,7 @@ impl Assertions {
         requires { length args.now ≤ MOST_PARAMETERS }
         ensures { result ≡ heard_by (is_at symbol args.now) self.now }
     {
-        heard_at(&self.table, key_of(symbol, args))
+        self.table.heard_at(symbol, args)
     }
 
     // What is said of a symbol by the assertions whose first arguments are these, and of whose other ones each is

@@ -14,6 +14,7 @@ mod class_order;
 mod class_rows;
 mod classes;
 mod heard;
+mod key;
 mod laws;
 mod make;
 mod object;

@@ -28,32 +28,35 @@ use scopes::are_scopes;
 use std::alloc::{AllocError, Global};
 
 fn are_parts(
+    alloc: Global,
     classes: &[Class],
     references: &[Reference],
     predicates: &[Predicate],
     objects: &[ObjectDecl],
     assertions: &[Assertion],
     scopes: &[Scope],
-) -> bool
-    ensures { IsTrue result ↔ AreParts classes.now references.now predicates.now
-        objects.now assertions.now scopes.now }
+) -> Result<bool, AllocError>
+    ensures { IfOk result (λ fit. IsTrue fit ↔ AreParts classes.now references.now predicates.now
+        objects.now assertions.now scopes.now) }
 {
     if !are_classes(classes) || !are_references(classes, references) {
-        return false;
+        return Ok(false);
     }
-    if !are_objects(classes, objects) {
-        return false;
+    if !are_objects(alloc, classes, objects)? {
+        return Ok(false);
     }
     if !are_predicates(classes, references, objects, predicates) {
-        return false;
+        return Ok(false);
     }
-    are_assertions(classes, references, predicates, objects, assertions)
-        && are_scopes(classes, scopes)
+    Ok(
+        are_assertions(classes, references, predicates, objects, assertions)
+            && are_scopes(classes, scopes),
+    )
 }
 
 impl Problem {
     /// The problem of these parts, or None where they aren't what the parts of every problem are.
-    /// Names are compared pair by pair.
+    /// Names of classes and of references are compared pair by pair.
     pub fn new(
         alloc: Global,
         classes: Vec<Class>,
@@ -74,13 +77,14 @@ impl Problem {
             objects.items assertions.items scopes.items → ⊥)) }
     {
         if !are_parts(
+            alloc,
             &classes,
             &references,
             &predicates,
             &objects,
             &assertions,
             &scopes,
-        ) {
+        )? {
             return Ok(None);
         }
         Ok(Some(Problem {

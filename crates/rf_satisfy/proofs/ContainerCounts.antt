@@ -8,7 +8,8 @@ use Rattle.rf_finite.proofs.Range.{sum_below-zero, sum_below-add, sum_below-one,
 use Rattle.rf_graph.specs.declared.graph.Edge.{Edge}
 use Rattle.rf_graph.specs.declared.graph.Graph.{Graph}
 use Rattle.rf_graph.specs.Graph.{Fits, has_edge, size_of}
-use Rattle.rf_graph.specs.Violations.{container_count, is_containing}
+use Rattle.rf_problem.specs.Contained.{is_containing}
+use Rattle.rf_graph.specs.Violations.{container_count}
 use Rattle.rf_problem.specs.declared.problem.Problem.{Problem}
 use Rattle.rf_satisfy.specs.Edges.{is_into}
 use Rattle.rf_satisfy.specs.Containers.{contains_node}

@@ -14,8 +14,8 @@ use Rattle.rf_finite.proofs.Walks.{walk_below-same}
 use Rattle.rf_graph.specs.First.{is_wrongly_contained, when}
 use Rattle.rf_graph.specs.Graph.{Fits, FitsEdge, class_of, has_edge, size_of}
 use Rattle.rf_graph.specs.declared.verdict.Violation.TheVariants.{Containers}
-use Rattle.rf_problem.specs.Contained.{is_contained_class}
-use Rattle.rf_graph.specs.Violations.{container_count, contains_in, is_containing}
+use Rattle.rf_problem.specs.Contained.{is_contained_class, is_containing}
+use Rattle.rf_graph.specs.Violations.{container_count, contains_in}
 use Rattle.rf_graph.specs.declared.graph.Edge.{Edge}
 use Rattle.rf_graph.specs.declared.graph.Graph.{Graph}
 use Rattle.rf_problem.specs.declared.problem.Problem.{Problem}

@@ -1,7 +1,8 @@
 -- Which edges contain nodes, and when no node is contained twice.
 use Rattle.std.specs.Prelude.{◌<◌, ◌≤◌, ◌==◌, ◌&&◌, ℕ, Bool}
 use Rattle.rf_graph.specs.Graph.{size_of}
-use Rattle.rf_graph.specs.Violations.{container_count, is_containing}
+use Rattle.rf_problem.specs.Contained.{is_containing}
+use Rattle.rf_graph.specs.Violations.{container_count}
 use Rattle.rf_graph.specs.declared.graph.Edge.{Edge}
 use Rattle.rf_graph.specs.declared.graph.Graph.{Graph}
 use Rattle.rf_problem.specs.declared.problem.Problem.{Problem}

@@ -4,7 +4,8 @@ ghost use Rattle.std.specs.Prelude.{◌≡◌, ◌<◌, ◌==◌, ◌&&◌, ◌|
 ghost use Rattle.std.specs.FinSet.{contains};
 ghost use Rattle.rf_graph.specs.First.{first_containers};
 ghost use Rattle.rf_graph.specs.Graph.{Fits, class_of, size_of};
-ghost use Rattle.rf_graph.specs.Violations.{container_count, is_containing};
+ghost use Rattle.rf_problem.specs.Contained.{is_containing};
+ghost use Rattle.rf_graph.specs.Violations.{container_count};
 ghost use Rattle.rf_satisfy.specs.Containers.{AreContainedOnce, contains_node};
 
 use crate::nodes::class_of;

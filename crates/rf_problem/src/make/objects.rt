@@ -1,28 +1,20 @@
 //! What the objects of every problem keep.
 
-ghost use Rattle.std.specs.Prelude.{◌≡◌, ◌≢◌, ◌≤◌, ◌++◌, ◌↔◌, ◌&&◌, nat_lt, All, IsTrue, length, map};
+ghost use Rattle.std.specs.Prelude.{◌≡◌, ◌≤◌, ◌++◌, ◌∷◌, [], ◌↔◌, ◌&&◌, nat_lt, All, AllPairs, IfOk, IsTrue, List, length, map};
 ghost use Rattle.rf_text.specs.Written.{CanBeQuoted};
 ghost use Rattle.rf_problem.specs.Classes.{class_at};
+ghost use Rattle.rf_problem.specs.Noted.{AreNamedApart, AreNoted};
+ghost use Rattle.rf_problem.specs.declared.object.ObjectDecl.{ObjectDecl as ObjectValue};
 ghost use Rattle.rf_problem.specs.Valid.{AreObjects, HasName, FitsCount, IsSmall, fits_kind, has_new, is_named, named_objects, new_numbers, new_object};
 
-use super::apart::{Apart, are_apart};
 use super::counts::is_small;
 use crate::stock::has_new;
 use crate::{Class, ObjectDecl, ObjectKind, ObjectName};
 use rf_bounds::MOST_OBJECTS;
 use rf_text::can_be_quoted;
 use rf_values::Count;
-
-impl Apart for ObjectDecl {
-    ghost AreApart = { λ o q. HasName o.name (λ name. HasName q.name (λ other. name ≢ other)) };
-
-    fn is_apart(&self, other: &ObjectDecl) -> bool {
-        match (&self.name, &other.name) {
-            (ObjectName::Named(own), ObjectName::Named(taken)) => own.as_str() != taken.as_str(),
-            _ => true,
-        }
-    }
-}
+use std::alloc::{AllocError, Global};
+use std::collections::BTreeSet;
 
 fn is_named(object: &ObjectDecl) -> bool
     ensures { result ≡ is_named object.now.name }
@@ -53,6 +45,31 @@ fn have_names(objects: &[ObjectDecl]) -> bool
     ensures { IsTrue result ↔ All (λ o. HasName o.name CanBeQuoted) objects.now }
 {
     objects.iter().all(can_be_named)
+}
+
+// Notes the name of an object, if it has one. Whether no object before has the same.
+fn note<'a>(seen: &mut BTreeSet<&'a [u8]>, object: &'a ObjectDecl) -> Result<bool, AllocError>
+    ensures { IfOk result (λ is_new. (objects : List ObjectValue) → AreNoted objects seen.old →
+        AreNoted (objects ++ object.now ∷ []) seen.new
+        × (IsTrue is_new ↔ All (λ o. AreNamedApart o object.now) objects)) }
+{
+    match &object.name {
+        ObjectName::Named(name) => Ok(seen.insert(name.as_str().as_bytes())?),
+        ObjectName::NewOf(_) => Ok(true),
+    }
+}
+
+// Whether no two of the objects have the same name.
+fn have_names_apart(alloc: Global, objects: &[ObjectDecl]) -> Result<bool, AllocError>
+    ensures { IfOk result (λ apart. IsTrue apart ↔ AllPairs AreNamedApart objects.now) }
+{
+    let mut seen = BTreeSet::new(alloc);
+    for object in objects {
+        if !note(&mut seen, object)? {
+            return Ok(false);
+        }
+    }
+    Ok(true)
 }
 
 fn have_small_counts(objects: &[ObjectDecl]) -> bool
@@ -146,18 +163,22 @@ fn are_stocked(classes: &[Class], objects: &[ObjectDecl]) -> bool
 }
 
 /// Whether they are what the objects of every problem of these classes are.
-pub fn are_objects(classes: &[Class], objects: &[ObjectDecl]) -> bool
+pub fn are_objects(
+    alloc: Global,
+    classes: &[Class],
+    objects: &[ObjectDecl],
+) -> Result<bool, AllocError>
     requires { length classes.now ≤ 256 }
-    ensures { IsTrue result ↔ AreObjects classes.now objects.now }
+    ensures { IfOk result (λ fit. IsTrue fit ↔ AreObjects classes.now objects.now) }
 {
-    if count_named(objects) > MOST_OBJECTS {
-        return false;
+    if count_named(objects) > MOST_OBJECTS || !have_names(objects) {
+        return Ok(false);
     }
-    if !have_names(objects) || !are_apart(objects) {
-        return false;
+    if !have_names_apart(alloc, objects)? {
+        return Ok(false);
     }
     if !have_small_counts(objects) || !have_kinds(classes, objects) {
-        return false;
+        return Ok(false);
     }
-    have_counts(objects) && are_stocked(classes, objects)
+    Ok(have_counts(objects) && are_stocked(classes, objects))
 }
