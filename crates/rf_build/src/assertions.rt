@@ -57,7 +57,7 @@ fn resolved_args(alloc: Global, names: &Names, args: &[Arg]) -> Result<Vec<Optio
     ensures { IfOk result (λ numbers. numbers.items
         ≡ map (resolved_arg names.now.declared.now) args.now) }
 {
-    let mut numbers = Vec::new(alloc);
+    let mut numbers = Vec::with_capacity(alloc, args.len())?;
     for arg in args {
         numbers.push(resolved_arg(names, arg))?;
     }

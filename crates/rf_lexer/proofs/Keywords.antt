@@ -7,15 +7,11 @@ use Rattle.std.proofs.lemmas.Slice.Eq.{bytes_eq-Decides}
 use Rattle.rf_text.specs.Keyword.{is_keyword}
 use Rattle.rf_lexer.specs.Spelling.{keyword_spelling}
 use Rattle.rf_lexer.specs.declared.keyword.Keyword.{Keyword}
+use Rattle.rf_lexer.proofs.Spellings.{all_keywords}
 use Rattle.rf_lexer.specs.declared.keyword.Keyword.TheVariants.{Abstract, Atom, Class, Container, Contains, Declare, Default, Enum, Error, Extends, False, Multi, Opposite, Pred, Refers, Scope, True, Unknown}
 
 abbrev IsSpelling : List ℕ → Type 0
 IsSpelling word = (k : Keyword) × (word ≡ keyword_spelling k)
-
-abbrev all_keywords : List Keyword
-all_keywords =
-    Abstract ∷ Atom ∷ Class ∷ Container ∷ Contains ∷ Declare ∷ Default ∷ Enum ∷ Error ∷ Extends ∷ False ∷ Multi ∷ Opposite ∷ Pred ∷
-    Refers ∷ Scope ∷ True ∷ Unknown ∷ []
 
 one_of : (ks : List Keyword) (word : List ℕ) → list_any (λ w. bytes_eq w word) (map keyword_spelling ks) ≡ true → IsSpelling word
 one_of [] word e = let none : false ≡ true = e in cc

@@ -8,7 +8,6 @@ pub mod Gaps
 pub mod Heads
 pub mod Keywords
 pub mod Longest
-pub mod Marks
 pub mod Sequences
 pub mod Spans
 pub mod Spellings

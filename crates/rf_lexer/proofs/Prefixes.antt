@@ -1,6 +1,5 @@
 -- Prefixes of a list, and how far they reach.
-use Rattle.std.proofs.lemmas.List.{append-nil, append_cancel_left}
-use Rattle.std.proofs.Common.{◌≡◌, ◌≢◌, ◌∙◌, ℕ, ◌≤◌, ◌+◌, Bool, true, false, List, [], ◌∷◌, ◌++◌, length, refl, sym, ap, arith, append_assoc, length-append}
+use Rattle.std.proofs.Common.{◌≡◌, ℕ, ◌≤◌, ◌+◌, Bool, true, false, List, [], ◌∷◌, ◌++◌, length, refl, sym, arith, append_assoc, length-append}
 use Rattle.rf_text.specs.Identifier.{EachPasses}
 use Rattle.rf_lexer.specs.Characters.{StopsAt}
 
@@ -61,50 +60,3 @@ EachPasses-push p (y ∷ a) x each passes = (each.0, EachPasses-push p a x each.
 
 pub length-push : (a : List ℕ) (x : ℕ) → length (a ++ x ∷ []) ≡ length a + 1
 length-push a x = omega (arith, length-append a (x ∷ []))
-
--- two lists begin with the same prefix, and go on so
-pub record SamePrefix (xs ys r s : List ℕ) : Type 0 where
-  pub prefix : List ℕ
-  pub first : xs ≡ prefix ++ r
-  pub second : ys ≡ prefix ++ s
-
-pub same_prefix_none : (xs ys : List ℕ) → SamePrefix xs ys xs ys
-same_prefix_none xs ys = record { prefix = []; first = refl; second = refl }
-
-pub same_prefix_more :
-    (xs ys r s : List ℕ) (c d : ℕ) (after others : List ℕ) → SamePrefix xs ys r s → r ≡ c ∷ after → s ≡ d ∷ others → c ≡ d →
-    SamePrefix xs ys after others
-same_prefix_more xs ys r s c d after others so_far e f same =
-    let next : r ≡ d ∷ after = cc in
-    record {
-      prefix = so_far.prefix ++ d ∷ [];
-      first = so_far.first ∙ ap (λ l. so_far.prefix ++ l) next ∙ regrouped so_far.prefix d after;
-      second = so_far.second ∙ ap (λ l. so_far.prefix ++ l) f ∙ regrouped so_far.prefix d others;
-    }
-
--- the second is the prefix
-pub prefix_all : (xs ys r s : List ℕ) → SamePrefix xs ys r s → s ≡ [] → xs ≡ ys ++ r
-prefix_all xs ys r s so_far none =
-    let whole : ys ≡ so_far.prefix = so_far.second ∙ ap (λ l. so_far.prefix ++ l) none ∙ append-nil so_far.prefix in
-    so_far.first ∙ ap (λ l. l ++ r) (sym whole)
-
-prefix_rest : (xs ys r s t : List ℕ) → SamePrefix xs ys r s → xs ≡ ys ++ t → r ≡ s ++ t
-prefix_rest xs ys r s t so_far e =
-    append_cancel_left so_far.prefix r (s ++ t)
-    (sym so_far.first ∙ e ∙ ap (λ l. l ++ t) so_far.second ∙ append_assoc so_far.prefix s t)
-
--- the first ends before the second
-pub prefix_short :
-    (xs ys r s t others : List ℕ) (d : ℕ) → SamePrefix xs ys r s → r ≡ [] → s ≡ d ∷ others → xs ≡ ys ++ t → ⊥
-prefix_short xs ys r s t others d so_far none f e =
-    let rest : r ≡ s ++ t = prefix_rest xs ys r s t so_far e in
-    let both : [] ≡ d ∷ (others ++ t) = sym none ∙ rest ∙ ap (λ l. l ++ t) f in
-    cc
-
--- they differ
-pub prefix_differs :
-    (xs ys r s t after others : List ℕ) (c d : ℕ) → SamePrefix xs ys r s → r ≡ c ∷ after → s ≡ d ∷ others → c ≢ d → xs ≡ ys ++ t → ⊥
-prefix_differs xs ys r s t after others c d so_far g f differ e =
-    let rest : r ≡ s ++ t = prefix_rest xs ys r s t so_far e in
-    let both : c ∷ after ≡ d ∷ (others ++ t) = sym g ∙ rest ∙ ap (λ l. l ++ t) f in
-    differ cc

@@ -24,27 +24,6 @@ pub enum Keyword {
     Unknown,
 }
 
-static KEYWORDS: [Keyword; 18] = [
-    Keyword::Abstract,
-    Keyword::Atom,
-    Keyword::Class,
-    Keyword::Container,
-    Keyword::Contains,
-    Keyword::Declare,
-    Keyword::Default,
-    Keyword::Enum,
-    Keyword::Error,
-    Keyword::Extends,
-    Keyword::False,
-    Keyword::Multi,
-    Keyword::Opposite,
-    Keyword::Pred,
-    Keyword::Refers,
-    Keyword::Scope,
-    Keyword::True,
-    Keyword::Unknown,
-];
-
 impl Keyword {
     /// How the keyword is written.
     pub fn as_str(self) -> &'static str
@@ -78,10 +57,25 @@ pub fn keyword_of(word: &str) -> Option<Keyword>
     ensures found { IfSome result (λ k. word.now ≡ keyword_spelling k) }
     ensures none { IfNone result ((k : _) → word.now ≡ keyword_spelling k → ⊥) }
 {
-    for i in 0..KEYWORDS.len() {
-        if KEYWORDS[i].as_str() == word {
-            return Some(KEYWORDS[i]);
-        }
+    match word {
+        "abstract" => Some(Keyword::Abstract),
+        "atom" => Some(Keyword::Atom),
+        "class" => Some(Keyword::Class),
+        "container" => Some(Keyword::Container),
+        "contains" => Some(Keyword::Contains),
+        "declare" => Some(Keyword::Declare),
+        "default" => Some(Keyword::Default),
+        "enum" => Some(Keyword::Enum),
+        "error" => Some(Keyword::Error),
+        "extends" => Some(Keyword::Extends),
+        "false" => Some(Keyword::False),
+        "multi" => Some(Keyword::Multi),
+        "opposite" => Some(Keyword::Opposite),
+        "pred" => Some(Keyword::Pred),
+        "refers" => Some(Keyword::Refers),
+        "scope" => Some(Keyword::Scope),
+        "true" => Some(Keyword::True),
+        "unknown" => Some(Keyword::Unknown),
+        _ => None,
     }
-    None
 }

@@ -13,6 +13,9 @@ use std::alloc::Global;
 
 const COMMA: Terminal = Terminal::Mark(Mark::Comma);
 
+// Most lists between parentheses have no more parts.
+const USUAL_PARTS: usize = 2;
+
 // A part after the terminal, if that is first.
 pub fn parse_optional_after<T: Part>(
     alloc: Global,
@@ -96,11 +99,11 @@ pub fn parse_listed_to<T: Part>(
     ensures stop { IfErr result (λ e.
         StopsAt (listed_to (kind_of close) T.pieces) never tokens.now e) }
 {
-    let mut parts = Items::from_vec(Vec::new(alloc));
     if let Some(rest) = accept(tokens, close) {
-        return Ok((parts, rest));
+        return Ok((Items::from_vec(Vec::new(alloc)), rest));
     }
     let (first, after) = T::parse(alloc, tokens)?;
+    let mut parts = Items::from_vec(Vec::with_capacity(alloc, USUAL_PARTS)?);
     parts.push(first)?;
     let after = push_each_after(alloc, COMMA, &mut parts, after)?;
     let rest = expect(after, close)?;

@@ -64,6 +64,15 @@ pub record IsLongestMark (mark : Mark) (cs rest : List ℕ) : Type 0 where
   pub joined : cs ≡ mark_spelling mark ++ rest
   pub longest : (other : Mark) (suffix : List ℕ) → cs ≡ mark_spelling other ++ suffix → length (mark_spelling other) ≤ length (mark_spelling mark)
 
+-- cs begin with this mark, of so many characters
+pub record IsMarkOf (size : ℕ) (mark : Mark) (cs rest : List ℕ) : Type 0 where
+  pub joined : cs ≡ mark_spelling mark ++ rest
+  pub sized : length (mark_spelling mark) ≡ size
+
+-- cs begin with no mark of so many characters
+abbrev pub HasNoMarkOf : ℕ → List ℕ → Type 0
+HasNoMarkOf size cs = (mark : Mark) (rest : List ℕ) → length (mark_spelling mark) ≡ size → cs ≡ mark_spelling mark ++ rest → ⊥
+
 -- the longest lexeme that cs begin with is of this kind, and within the limits
 pub record Takes (kind : Kind) (cs rest : List ℕ) : Type 0 where
   pub longest : IsLongest kind cs rest
