@@ -21,3 +21,4 @@ pub mod StepLemmas
 pub mod WalkLemmas
 pub mod ClauseSearch
 pub mod FoundValues
+pub mod LiteralLemmas

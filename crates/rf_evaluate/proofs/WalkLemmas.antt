@@ -1,16 +1,14 @@
 -- The walks along a side of the steps are those of what is known, and the kept marks tell them.
 use Rattle.std.proofs.Common.{◌≡◌, ◌∙◌, ℕ, ◌<◌, Bool, true, false, cond, Option, Some, None, List, [], ◌∷◌, length, map, get_or, refl, sym, ap, ap₂, subst, inl, inr, arith}
 use Rattle.std.specs.BTreeMap.{BTreeMap, get}
-use Rattle.std.specs.Ordering.{is_eq, nat_cmp, ordering_then}
+use Rattle.std.specs.Ordering.{is_eq, nat_cmp}
 use Rattle.std.specs.Cmp.{booleans_Decides, unsigned_ties}
 use Rattle.std.specs.Cmp.Derive.Mapped.{pointwise-map}
 use Rattle.std.specs.Prelude.{Vec, nat_eq}
-use Rattle.std.specs.declared.cmp.Ordering.{Ordering}
-use Rattle.std.specs.declared.cmp.Ordering.TheVariants.{Less, Equal, Greater}
 use lib.Pointwise.{pointwise}
 use mathlib.Core.Bool.{beq}
 use Rattle.std.specs.declared.alloc.Global.{Global}
-use Rattle.std.proofs.lemmas.Bool.{and_parts, cases_Bool, eqb-true}
+use Rattle.std.proofs.lemmas.Bool.{cases_Bool, eqb-true}
 use Rattle.std.proofs.lemmas.List.{length-map}
 use Rattle.std.proofs.lemmas.Option.{none-some, same_Some}
 use Rattle.std.proofs.lemmas.Slice.Eq.{bytes_eq-Decides, slice_eq-Decides}
@@ -19,9 +17,8 @@ use Rattle.rf_finite.proofs.Walks.{walk_below-same}
 use Rattle.rf_closure.specs.Along.{leads}
 use Rattle.rf_values.specs.Truth.{may, must, truth_of}
 use Rattle.rf_values.specs.declared.truth.Truth.{Truth}
-use Rattle.rf_problem.specs.Parts.{same_symbol, symbol_cmp}
-use Rattle.rf_problem.specs.Table.{is_key}
-use Rattle.rf_problem.proofs.KeyLemmas.{is_key-tied, same_symbol-same}
+use Rattle.rf_problem.specs.Parts.{symbol_cmp}
+use Rattle.rf_problem.proofs.KeyLemmas.{same_symbol-same, symbol-tied}
 use Rattle.rf_problem.specs.Reading.{Reading, predicate_true, symbol_true}
 use Rattle.rf_problem.specs.declared.symbol.Symbol.{Symbol}
 use Rattle.rf_evaluate.specs.Kept.{AreSearched, AreWalksOf, mark_of, side_or}
@@ -138,17 +135,9 @@ AreWalksOf-more k symbol old room new x marks same_must same_may kept put held r
 pub none-kept : (map : BTreeMap ℕ Marks) → map.entries ≡ [] → (x : ℕ) (own : Marks) → get nat_cmp map x ≡ Some own → ⊥
 none-kept map empty x own found = let none : get nat_cmp map x ≡ None = rw empty refl in none-some own (sym none ∙ found)
 
-then_equal : (o : Ordering) → is_eq (ordering_then o Equal) ≡ is_eq o
-then_equal Less = refl
-then_equal Equal = refl
-then_equal Greater = refl
-
 -- symbols that are tied are the same
 symbol-same : (a b : Symbol) → is_eq (symbol_cmp a b) ≡ true → a ≡ b
-symbol-same a b e =
-    let tied : is_key (record { symbol = a; args = [] }) (record { symbol = b; args = [] }) ≡ true =
-    is_key-tied (record { symbol = a; args = [] }) (record { symbol = b; args = [] }) ∙ then_equal (symbol_cmp a b) ∙ e in
-    same_symbol-same a b (and_parts (same_symbol a b) true tied).0
+symbol-same a b e = same_symbol-same a b (symbol-tied a b ∙ e)
 
 -- the walks of one symbol more
 pub kept-more : (k : Known) (old new : BTreeMap Symbol Walks) (symbol : Symbol) (walks : Walks)

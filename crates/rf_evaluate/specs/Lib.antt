@@ -1,5 +1,6 @@
 -- what public contracts cite, in the order of reading
 pub mod Known
+pub mod Literals
 pub mod Elements
 pub mod Kept
 pub mod Search

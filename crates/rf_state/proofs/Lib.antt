@@ -12,3 +12,4 @@ pub mod NamedLemmas
 pub mod AssertedLemmas
 pub mod EndLemmas
 pub mod IndexLemmas
+pub mod FittingObjects

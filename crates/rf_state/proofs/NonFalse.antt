@@ -11,7 +11,7 @@ use Rattle.rf_problem.specs.declared.problem.Problem.{Problem}
 use Rattle.rf_evaluate.specs.Search.{AreValuesFound}
 use Rattle.rf_state.specs.State.{State}
 use Rattle.rf_state.specs.StateKnown.{state_known, value}
-use Rattle.rf_state.specs.Values.{AreNotFalse, AreValues, IsNotFalseAt, may_have_node}
+use Rattle.rf_state.specs.Values.{AreValues, IsNotFalseAt, may_have_node}
 
 list_all-from_All : (p : ℕ → Bool) (xs : List ℕ) → All (λ x. p x ≡ true) xs → list_all p xs ≡ true
 list_all-from_All p [] h = refl

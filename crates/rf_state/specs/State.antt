@@ -1,5 +1,5 @@
 -- States of partial knowledge: objects, each of which stands for some nodes, and what was added to the facts between them.
-use Rattle.std.specs.Prelude.{◌≡◌, ◌<◌, ℕ, Bool, ◌==◌, ◌&&◌, ◌||◌, not, if◌then◌else◌, Option, None, Some, List, [], ◌∷◌, ◌++◌, length, slice_index_or, slice_set}
+use Rattle.std.specs.Prelude.{◌≡◌, ◌<◌, ℕ, Bool, true, ◌==◌, ◌&&◌, ◌||◌, not, if◌then◌else◌, Option, None, Some, List, [], ◌∷◌, ◌++◌, length, slice_index_or, slice_set}
 use Rattle.std.specs.FinSet.{contains, empty, intersection}
 use Rattle.rf_finite.specs.Range.{all_below, some_below}
 use Rattle.rf_values.specs.Count.{less_one, meet}
@@ -26,6 +26,10 @@ no_object = record { origin = 0; count = record { lo = 0; hi = Some 0 }; candida
 
 abbrev pub object_of : State → ℕ → Object
 object_of s o = slice_index_or s.objects o no_object
+
+-- the classes of a set are classes of the problem
+abbrev pub AreDeclared : Problem → ClassSet → Type 0
+AreDeclared p set = (c : ℕ) → contains set c ≡ true → c < length p.classes
 
 -- whether every, and whether some class that the nodes of an object may have is below class k
 abbrev pub all_candidates : Problem → State → ℕ → ℕ → Bool

@@ -1,9 +1,10 @@
 //! The values of predicates in a state.
 
-ghost use Rattle.std.specs.Prelude.{◌≡◌, ◌<◌, ℕ, All, IfOk, length, nat_lt};
+ghost use Rattle.std.specs.Prelude.{◌≡◌, ◌<◌, ℕ, All, IfOk, length, max, nat_lt, slice_index};
 ghost use Rattle.std.specs.FinSet.{contains};
 ghost use Rattle.rf_problem.specs.Parts.{predicate_at};
 ghost use Rattle.rf_evaluate.specs.Kept.{AreKept};
+ghost use Rattle.rf_evaluate.specs.Literals.{clause_at, literal_at, literal_known};
 ghost use Rattle.rf_state.specs.StateKnown.{state_known, value};
 ghost use Rattle.rf_state.specs.Values.{AreValues};
 
@@ -83,6 +84,35 @@ impl<'f, F: Facts> Evaluator<'f, F> {
         let stated = self.stated();
         let symbol = Symbol::Predicate(predicate);
         rf_evaluate::value(&stated, &mut self.closures, symbol, tuple.as_slice())
+    }
+
+    /// The value of a literal of a clause of a predicate, where the clause's variables stand for these
+    /// objects. Where memory runs out, the answer is an `AllocError`.
+    pub fn literal(
+        &mut self,
+        predicate: u32,
+        clause: usize,
+        literal: usize,
+        objects: [u64; 8],
+    ) -> Result<Truth, AllocError>
+        requires predicate { predicate < length (F.problem self.old.facts.now).predicates }
+        requires clause { clause < length (predicate_at (F.problem self.old.facts.now).predicates predicate).clauses }
+        requires literal { literal < length (clause_at (F.problem self.old.facts.now) predicate clause).literals }
+        requires objects { (v : ℕ) → slice_index objects v < max 1 (length (F.state self.old.facts.now).objects) }
+        ensures facts { self.new.facts.now ≡ self.old.facts.now }
+        ensures value { IfOk result (λ v. v ≡ literal_known (state_known (F.problem self.old.facts.now) (F.state self.old.facts.now))
+            (clause_at (F.problem self.old.facts.now) predicate clause).variables literal (slice_index objects)
+            (literal_at (clause_at (F.problem self.old.facts.now) predicate clause) literal)) }
+    {
+        let stated = self.stated();
+        rf_evaluate::literal(
+            &stated,
+            &mut self.closures,
+            predicate,
+            clause,
+            literal,
+            objects,
+        )
     }
 
     /// The values of a predicate that aren't false, at the tuples of objects that may have nodes, in

@@ -8,9 +8,10 @@ use rf_values::{ClassSet, Count, Truth};
 pub trait Facts {
     ghost use Rattle.std.specs.Prelude.{◌≡◌, ◌<◌, ℕ, length, false, true};
     ghost use Rattle.rf_values.specs.declared.truth.Truth.TheVariants.{False};
+    ghost use Rattle.rf_problem.specs.Valid.{IsSmall};
     ghost use Rattle.rf_problem.specs.declared.problem.Problem.{Problem};
     ghost use Rattle.rf_evaluate.specs.Elements.{AreBelow, includes};
-    ghost use Rattle.rf_state.specs.State.{State, fact, object_of};
+    ghost use Rattle.rf_state.specs.State.{AreDeclared, State, fact, object_of};
 
     ghost problem: { Self → Problem };
 
@@ -29,15 +30,18 @@ pub trait Facts {
         requires { o < length (state self.now).objects }
         ensures { result ≡ (object_of (state self.now) o).origin };
 
-    /// How many nodes an object stands for.
+    /// How many nodes an object stands for. The ends of the count are at most the greatest number of a problem text, so that
+    /// a sum over all objects fits a `u128`.
     fn count(&self, o: u64) -> Count
         requires { o < length (state self.now).objects }
-        ensures { result ≡ (object_of (state self.now) o).count };
+        ensures count { result ≡ (object_of (state self.now) o).count }
+        ensures small { IsSmall result };
 
-    /// The classes that its nodes may have.
+    /// The classes that its nodes may have, which are classes of the problem.
     fn candidates(&self, o: u64) -> ClassSet
         requires { o < length (state self.now).objects }
-        ensures { result ≡ (object_of (state self.now) o).candidates };
+        ensures candidates { result ≡ (object_of (state self.now) o).candidates }
+        ensures declared { AreDeclared (problem self.now) result };
 
     /// What is known of an edge of a reference from object `a` to object `b`.
     fn fact(&self, r: u32, a: u64, b: u64) -> Truth

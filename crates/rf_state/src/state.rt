@@ -1,7 +1,9 @@
 //! A state.
 
+ghost use Rattle.std.specs.Prelude.{All};
 ghost use Rattle.std.specs.Option.{ForSome};
 ghost use Rattle.rf_state.specs.NamedEnds.{IsIndex};
+ghost use Rattle.rf_state.specs.Root.{FitsObject};
 
 mod edits;
 mod made;
@@ -23,4 +25,5 @@ pub struct State<'p> {
     // The ends that assertions and added facts name together, as long as no object is fresh.
     named: Option<NamedEnds>,
     ghost index: { ForSome named (λ ends. IsIndex problem.now objects.items added ends) },
+    ghost fit: { All (FitsObject problem.now) objects.items },
 }

@@ -22,6 +22,7 @@ pub trait View: Facts {
 /// its edits leave as it is. The problem never changes. Where memory runs out, the state is as before.
 pub trait Edit: View {
     ghost use Rattle.std.specs.Prelude.{◌≡◌, ◌≢◌, ◌<◌, List, Some, length, IfOk, OnErr, OnOk};
+    ghost use Rattle.rf_problem.specs.Valid.{IsSmall};
     ghost use Rattle.rf_state.specs.State.{State, fresh_of, kept_to, merged_at, narrowed, object_of};
 
     ghost kept: { Self → List State };
@@ -36,9 +37,11 @@ pub trait Edit: View {
         ensures merged { OnOk result (Self.state self.new ≡ merged_at (Self.state self.old) r a b v) }
         ensures unchanged { OnErr result (Self.state self.new ≡ Self.state self.old) };
 
-    /// Leaves an object those of its numbers of nodes that a count allows too.
+    /// Leaves an object those of its numbers of nodes that a count allows too. The ends of that count are at most the
+    /// greatest number of a problem text, as those of each object's own count are.
     fn narrow(&mut self, alloc: Global, o: u64, count: Count) -> Result<(), AllocError>
-        requires { o < length (Self.state self.old).objects }
+        requires object { o < length (Self.state self.old).objects }
+        requires small { IsSmall count }
         ensures problem { Self.problem self.new ≡ Self.problem self.old }
         ensures kept { Self.kept self.new ≡ Self.kept self.old }
         ensures narrowed { OnOk result (Self.state self.new ≡ narrowed (Self.state self.old) o count) }

@@ -2,6 +2,7 @@
 
 ghost use Rattle.std.specs.Prelude.{◌≡◌, ◌≢◌, ◌<◌, Some, length, IfOk, OnOk, OnErr};
 ghost use Rattle.std.specs.Option.{ForSome};
+ghost use Rattle.rf_problem.specs.Valid.{IsSmall};
 ghost use Rattle.rf_state.specs.Added.{Added, added_at};
 ghost use Rattle.rf_state.specs.NamedEnds.{AreAdded, AreSameBut};
 ghost use Rattle.rf_state.specs.Meaning.{meaning};
@@ -53,9 +54,11 @@ impl State<'_> {
         Ok(())
     }
 
-    /// Leaves an object those of its numbers of nodes that a count allows too.
+    /// Leaves an object those of its numbers of nodes that a count allows too, whose ends are at most the greatest number of
+    /// a problem text.
     pub fn narrow(&mut self, o: u64, count: Count)
-        requires { o < length (meaning self.old).objects }
+        requires object { o < length (meaning self.old).objects }
+        requires small { IsSmall count }
         ensures problem { self.new.problem.now ≡ self.old.problem.now }
         ensures narrowed { meaning self.new ≡ narrowed (meaning self.old) o count }
     {

@@ -20,6 +20,7 @@ invariant_of-self c =
           (c.in_ok-name.ensures.named x e c.insert.new.self
           (subst (λ (m : Added). AreSameBut c.args.r c.args.a c.args.b m c.insert.new.self) c.in_ok-name.ensures.added same)))
           (named.index x e);
+      fit = named.fit;
     }
 
 pub returns-in_ok-insert-clause-merged : goal.returns-in_ok-insert-clause-merged

@@ -30,6 +30,7 @@ invariant_of-self c = record {
   index = λ x e. subst (IsIndex c.args.self.now.problem.now c.args.self.now.objects.items c.args.self.now.added) (same_Some c.name_edge.new.self x e)
       (IsIndex-grown c.args.self.now.problem.now c.args.self.now.objects.items c.args.self.now.added c.in-Some.named c.name_edge.new.self
       (ap (λ (v : Vec ℕ Global). vec_len v) c.name_edge.ensures.numbers) c.name_edge.ensures.grown (c.args.self.now.index c.in-Some.named c.in-Some.is));
+  fit = c.args.self.now.fit;
 }
 
 pub returns-in_ok-name_edge-clause-named : goal.returns-in_ok-name_edge-clause-named
