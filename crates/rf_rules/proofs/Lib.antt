@@ -1,0 +1,10 @@
+pub mod ClassLemmas
+pub mod MergeLemmas
+pub mod EffectLemmas
+pub mod RuleLemmas
+pub mod DecisionLemmas
+pub mod ApplyLemmas
+pub mod ScopeLemmas
+pub mod ScopeRowLemmas
+pub mod PredicateLemmas
+pub mod ContainmentLemmas
