@@ -6,12 +6,12 @@ mod documents;
 #[cfg(test)]
 mod files;
 #[cfg(test)]
-mod numbers;
-#[cfg(test)]
 mod ranks;
 #[cfg(test)]
 mod reach;
 #[cfg(test)]
 mod store;
+#[cfg(test)]
+mod sums;
 #[cfg(test)]
 mod words;

@@ -1,9 +1,9 @@
 //! The words of every command, the ones that no run shows yet too.
 
 use rf_text::Text;
-use rf_words::{Command, command};
+use rf_words::{WordsError, command};
 use std::alloc::{AllocError, Global};
-use std::test::Fail;
+use std::process::Abort;
 
 // The words of a line, cut at spaces.
 fn words_of(alloc: Global, line: &str) -> Result<Vec<Text>, AllocError> {
@@ -14,51 +14,50 @@ fn words_of(alloc: Global, line: &str) -> Result<Vec<Text>, AllocError> {
     Ok(words)
 }
 
-fn shown(alloc: Global, command: &Command) -> Result<String, AllocError> {
-    match command {
-        Command::Generate {
-            file,
-            seed,
-            budget,
-            json,
-        } => {
-            let file = file.as_str();
-            format!(in alloc; "{file} by {seed}, {budget}, {json}")
-        }
-        Command::Check { file, graph } => pair(alloc, "check", file, graph),
-        Command::Verify { file, tree } => pair(alloc, "verify", file, tree),
-        Command::Evaluate { file } => String::from_str(alloc, file.as_str()),
-        Command::Session { file, script } => pair(alloc, "session", file, script),
-        Command::Grow(n) => format!(in alloc; "grow {n}"),
-    }
+// The command of a line, as it is printed for whoever looks for a fault.
+fn shown(alloc: Global, line: &str) -> Result<String, WordsError> {
+    let words = words_of(alloc, line)?;
+    let command = command(alloc, words.as_slice())?;
+    Ok(format!(in alloc; "{command:?}")?)
 }
 
-fn pair(alloc: Global, name: &str, first: &Text, second: &Text) -> Result<String, AllocError> {
-    let first = first.as_str();
-    let second = second.as_str();
-    format!(in alloc; "{name} {first}, {second}")
+fn expect_command(rt: &impl Abort, alloc: Global, line: &str, want: &str) {
+    let Ok(text) = shown(alloc, line) else {
+        panic!(rt; "{line} is a command");
+    };
+    assert_eq!(rt; text.as_str(), want);
 }
 
 #[test]
-fn words_are_commands(rt: HostRuntime) -> Result<(), Fail> {
-    let alloc = rt.alloc();
+fn words_are_commands(rt: HostRuntime) {
     for (line, want) in [
-        ("generate p", "p by 0, 10000, false"),
-        ("generate --seed 7 p", "p by 7, 10000, false"),
+        (
+            "generate p",
+            r#"Generate { file: Text { inner: "p" }, seed: 0, budget: 10000, json: false }"#,
+        ),
+        (
+            "generate --seed 7 p",
+            r#"Generate { file: Text { inner: "p" }, seed: 7, budget: 10000, json: false }"#,
+        ),
         (
             "generate p --budget=1 --seed=18446744073709551615",
-            "p by 18446744073709551615, 1, false",
+            r#"Generate { file: Text { inner: "p" }, seed: 18446744073709551615, budget: 1, json: false }"#,
         ),
-        ("check ./-p g", "check ./-p, g"),
-        ("verify p t", "verify p, t"),
-        ("evaluate p", "p"),
-        ("session p s", "session p, s"),
-        ("grow 200", "grow 200"),
+        (
+            "check ./-p g",
+            r#"Check { file: Text { inner: "./-p" }, graph: Text { inner: "g" } }"#,
+        ),
+        (
+            "verify p t",
+            r#"Verify { file: Text { inner: "p" }, tree: Text { inner: "t" } }"#,
+        ),
+        ("evaluate p", r#"Evaluate { file: Text { inner: "p" } }"#),
+        (
+            "session p s",
+            r#"Session { file: Text { inner: "p" }, script: Text { inner: "s" } }"#,
+        ),
+        ("grow 200", "Grow(200)"),
     ] {
-        let words = words_of(alloc, line)?;
-        let command = command(alloc, words.as_slice())?;
-        let text = shown(alloc, &command)?;
-        assert_eq!(rt; text.as_str(), want, "{line}");
+        expect_command(&rt, rt.alloc(), line, want);
     }
-    Ok(())
 }
