@@ -12,8 +12,8 @@ use Rattle.rf_problem.specs.declared.symbol.Symbol.TheVariants.{Class, Reference
 use Rattle.rf_satisfy.specs.NodeLists.{row_of}
 use Rattle.rf_satisfy.specs.Suspects.{assertion_at, no_assertion, speaks_at}
 use Rattle.rf_satisfy.specs.SymbolKinds.{AreNumbered, number_of, symbol_of}
-use Rattle.rf_satisfy.specs.declared.asserted.SymbolKind.{SymbolKind}
-use Rattle.rf_satisfy.specs.declared.asserted.SymbolKind.TheVariants.{Classes, References, Predicates}
+use Rattle.rf_satisfy.specs.declared.kinds.asserted.SymbolKind.{SymbolKind}
+use Rattle.rf_satisfy.specs.declared.kinds.asserted.SymbolKind.TheVariants.{Classes, References, Predicates}
 use Rattle.rf_satisfy.proofs.NodeListLemmas.{ArePassing-push, ArePassing-skip}
 
 -- whether k is a number, where there is one

@@ -11,8 +11,8 @@ use Rattle.rf_graph.specs.declared.verdict.Violation.{Violation}
 use Rattle.rf_satisfy.specs.NodeLists.{row_of}
 use Rattle.rf_satisfy.specs.Suspects.{speaks_at}
 use Rattle.rf_satisfy.specs.Tuples.{ArePassing}
-use Rattle.rf_satisfy.specs.declared.asserted.SymbolKind.{SymbolKind}
-use Rattle.rf_satisfy.specs.declared.asserted.SymbolKind.TheVariants.{Classes, References, Predicates}
+use Rattle.rf_satisfy.specs.declared.kinds.asserted.SymbolKind.{SymbolKind}
+use Rattle.rf_satisfy.specs.declared.kinds.asserted.SymbolKind.TheVariants.{Classes, References, Predicates}
 
 -- how many symbols of a kind a problem declares
 abbrev pub count_of : Problem → SymbolKind → ℕ

@@ -3,8 +3,8 @@
 ghost use Rattle.std.specs.Prelude.{◌≡◌};
 ghost use Rattle.rf_satisfy.specs.GraphKnown.{certain, graph_known};
 
-use crate::graph_index::GraphIndex;
-use crate::nodes::origin_of;
+use crate::index::graph_index::GraphIndex;
+use crate::kinds::nodes::origin_of;
 use rf_evaluate::{Elements, Knowledge};
 use rf_problem::{Problem, Symbol};
 use rf_values::Truth;

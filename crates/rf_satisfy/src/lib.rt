@@ -4,27 +4,12 @@
 //! in about as many steps as there are nodes and edges.
 #![tactic(auto)]
 
-mod asserted;
-mod container_of;
-mod containers;
-mod cycle;
-mod degrees;
-mod edge_ends;
-mod edges;
-mod ends;
-mod excess;
 mod found;
-mod graph_index;
+mod index;
 mod judging;
+mod kinds;
 mod known;
 mod least;
-mod mirrors;
-mod node_lists;
-mod nodes;
-mod objects;
-mod peeling;
-mod scopes;
-mod suspects;
 mod tables;
 
 pub use judging::judge;
