@@ -17,7 +17,7 @@ pub use failed::Failed;
 pub use folder::Folder;
 pub use mem_folder::MemFolder;
 pub use mem_sink::MemSink;
-pub use read::{ReadError, read_file};
+pub use read::{PIECE, ReadError, make_piece, read_file};
 pub use real::{RealFolder, StreamSink};
 pub use sink::Sink;
 pub use write::write_all;

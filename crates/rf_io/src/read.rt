@@ -1,6 +1,7 @@
 ghost use Rattle.std.specs.Prelude.{◌≡◌, ◌≤◌, length, IfOk, IsErrOf};
 ghost use Rattle.rf_io.specs.Folder.{IsLong, IsTold, NoneFell, ReadFailed, SameFiles};
 ghost use Rattle.rf_io.specs.declared.read.ReadError.TheVariants.{Memory};
+ghost use Rattle.rf_io.specs.declared.read.TheConstants.{PIECE as PIECE_LENGTH};
 
 use crate::Folder;
 use std::alloc::{AllocError, Global};
@@ -24,13 +25,14 @@ impl From<AllocError> for ReadError {
     }
 }
 
-// How many bytes a read has room for.
-const PIECE: usize = 262144;
+/// How many bytes a read has room for.
+pub const PIECE: usize = 262144;
 
-fn make_buffer(alloc: Global, len: usize) -> Result<Vec<u8>, AllocError>
-    ensures { IfOk result (λ buffer. length buffer.items ≡ len) }
+/// Room for the bytes of a read.
+pub fn make_piece(alloc: Global) -> Result<Vec<u8>, AllocError>
+    ensures { IfOk result (λ piece. length piece.items ≡ PIECE_LENGTH) }
 {
-    vec![in alloc; 0u8; len]
+    vec![in alloc; 0u8; PIECE]
 }
 
 /// All the bytes of a file, which are at most `limit`. Nothing is read past the first piece that goes
@@ -49,7 +51,7 @@ pub fn read_file<F: Folder>(
     ensures later { NoneFell (F.state folder.old) (F.state folder.new) }
 {
     let mut bytes = Vec::new(alloc);
-    let mut buffer = make_buffer(alloc, PIECE)?;
+    let mut buffer = make_piece(alloc)?;
     let piece = buffer.as_mut_slice();
     loop {
         let Ok(count) = folder.read_at(name, bytes.len() as u64, piece) else {
