@@ -71,7 +71,7 @@ left_after-cut p (choice d first t u) s rest fits some cut =
     in_second whole some = elim some [ inl a ↦ absurd (hole-not_whole t whole a) | inr b ↦ b ]
 
 -- the decisions of a tree stand among its lines
-decisions_in-append : (xs ys : List Line) → decisions_in (xs ++ ys) ≡ decisions_in xs + decisions_in ys
+pub decisions_in-append : (xs ys : List Line) → decisions_in (xs ++ ys) ≡ decisions_in xs + decisions_in ys
 decisions_in-append [] ys = omega arith
 decisions_in-append (Step rule ∷ xs) ys = decisions_in-append xs ys
 decisions_in-append (Decide d first ∷ xs) ys = let rest = decisions_in-append xs ys in omega arith

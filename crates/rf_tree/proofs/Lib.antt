@@ -1,3 +1,11 @@
 pub mod LeavingLemmas
+pub mod PrefixLemmas
 pub mod StandingLemmas
 pub mod TreeLaws
+pub mod WordLemmas
+pub mod FieldLemmas
+pub mod TextLemmas
+pub mod DocumentLemmas
+pub mod ReaderLemmas
+pub mod StopLemmas
+pub mod PrintLemmas

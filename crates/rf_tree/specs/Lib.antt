@@ -3,3 +3,9 @@ pub mod Trees
 pub mod Lines
 pub mod Pending
 pub mod Laws
+pub mod Verdicts
+pub mod Document
+pub mod Reading
+pub mod Readers
+-- for private functions
+pub mod Private

@@ -1,0 +1,6 @@
+use Rattle.std.proofs.Common.{◌≡◌, ◌++◌, take}
+use Rattle.rf_tree.specs.Document.{spaced}
+use Rattle.rf_tree.proofs.print.push_numbers.Given as goal
+
+abbrev pub invariant-loop-number : goal.invariant-loop-number
+invariant-loop-number l = l.out ≡ l.fn.out ++ spaced (take l.number-index l.numbers)
