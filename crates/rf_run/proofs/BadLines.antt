@@ -36,7 +36,7 @@ bad_line_decides file graph p second line result is short found bad stuck = reco
 }
   where
     one : (r : Refusal) → RefusesSecond (Check file graph) p second r → refusal_of (BadLine OfGraph line) ≡ refusal_of r
-    one (TooLong sort) refuses = absurd (omega (arith, short, refuses.1))
+    one (TooLong sort) refuses = absurd (omega (arith, short, refuses.0.1))
     one (NoProblem fault) refuses = absurd refuses
     one (BadLine OfGraph other) refuses =
         elim (stuck other refuses.1) [

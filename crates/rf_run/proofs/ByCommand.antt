@@ -5,7 +5,7 @@ use Rattle.rf_words.specs.declared.request.Command.{Command}
 use Rattle.rf_words.specs.declared.request.Command.TheVariants.{Generate, Check, Verify, Evaluate, Session, Grow}
 use Rattle.rf_run.specs.Accepted.{IsAccepted}
 use Rattle.rf_run.specs.Answers.{Answers}
-use Rattle.rf_run.specs.Commands.{problem_file, second_file}
+use Rattle.rf_run.specs.Commands.{IsWhole, problem_file, second_file}
 use Rattle.rf_run.specs.Ends.{Input, IsSubject, RefusesSubject}
 use Rattle.rf_run.specs.Refuses.{HasBadLine, RefusesProblem, RefusesSecond, is_of_second}
 use Rattle.rf_run.specs.Stages.{IsWithin}
@@ -50,23 +50,24 @@ refuses_problem (Grow n) i r refuses = absurd refuses
 
 -- a refusal of the second file is one that is read after the problem
 pub of_second : (c : Command) (p : Problem) (second : List ℕ) (r : Refusal) → RefusesSecond c p second r → is_of_second r ≡ true
-of_second (Check file graph) p second (TooLong sort) refuses = rw refuses.0 refl
-of_second (Verify file tree) p second (TooLong sort) refuses = rw refuses.0 refl
-of_second (Session file script) p second (TooLong sort) refuses = rw refuses.0 refl
-of_second (Generate file seed budget json) p second (TooLong sort) refuses = absurd refuses
-of_second (Evaluate file) p second (TooLong sort) refuses = absurd refuses
-of_second (Grow n) p second (TooLong sort) refuses = absurd refuses
+of_second (Check file graph) p second (TooLong sort) refuses = rw refuses.0.0 refl
+of_second (Verify file tree) p second (TooLong sort) refuses = rw refuses.0.0 refl
+of_second (Session file script) p second (TooLong sort) refuses = rw refuses.0.0 refl
+of_second (Generate file seed budget json) p second (TooLong sort) refuses = absurd refuses.0
+of_second (Evaluate file) p second (TooLong sort) refuses = absurd refuses.0
+of_second (Grow n) p second (TooLong sort) refuses = absurd refuses.0
 of_second c p second (NoProblem fault) refuses = absurd refuses
 of_second c p second (BadLine sort line) refuses = refl
 
 -- a second file that has an answer, or a bad line, is within its limit
-pub within_of_answer : (c : Command) (p : Problem) (second : List ℕ) (a : Reply) → Answers c p second a → IsWithin (second_file c) second
-within_of_answer (Check file graph) p second a answers = answers.drawn.short
-within_of_answer (Generate file seed budget json) p second a answers = absurd answers
-within_of_answer (Verify file tree) p second a answers = absurd answers
-within_of_answer (Evaluate file) p second a answers = tt
-within_of_answer (Session file script) p second a answers = absurd answers
-within_of_answer (Grow n) p second a answers = absurd answers
+pub within_of_answer :
+    (c : Command) (p : Problem) (second : List ℕ) (a : Reply) → IsWhole c → Answers c p second a → IsWithin (second_file c) second
+within_of_answer (Check file graph) p second a whole answers = answers.drawn.short
+within_of_answer (Generate file seed budget json) p second a whole answers = absurd answers
+within_of_answer (Verify file tree) p second a whole answers = absurd whole
+within_of_answer (Evaluate file) p second a whole answers = tt
+within_of_answer (Session file script) p second a whole answers = absurd answers
+within_of_answer (Grow n) p second a whole answers = absurd answers
 
 pub within_of_line :
     (c : Command) (p : Problem) (second : List ℕ) (sort : Sort) (line : ℕ) → HasBadLine c p second sort line → IsWithin (second_file c) second

@@ -7,3 +7,6 @@ pub mod Replies
 pub mod BadLines
 pub mod OneCommand
 pub mod Left
+pub mod Trees
+pub mod Verified
+pub mod TreeFacts

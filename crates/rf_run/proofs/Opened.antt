@@ -1,21 +1,25 @@
--- A run up to the problem: what it ends with where the problem isn't had, and what is known where it is.
-use Rattle.std.proofs.Common.{◌≡◌, ◌⊎◌, ℕ, List, Option, Some, IfOk, IsErr, MatchResult, refl, sym, subst, inl, inr}
-use Rattle.rf_io.specs.Folder.{FolderState, IsMissing, IsTold, ReadFailed, Stores}
+-- A run up to the problem: what it ends with where the problem isn't had, and what is known where it is; and the whole run, by what came after it.
+use Rattle.std.proofs.Common.{◌≡◌, ◌∙◌, ◌⊎◌, ◌++◌, ℕ, List, [], ◌∷◌, Option, Some, Contains, Result, Ok, Err, IfOk, IsErr, IsErrOf, MatchResult, refl, sym, subst, inl, inr, arith}
+use Rattle.std.proofs.lemmas.List.Elements.{Contains-append_right}
+use Rattle.rf_io.specs.Folder.{FolderState, IsMissing, IsTold, NoneFell, ReadFailed, SameFiles, Stores}
 use Rattle.rf_problem.specs.declared.problem.Problem.{Problem}
 use Rattle.rf_words.specs.declared.request.Command.{Command}
 use Rattle.rf_run.specs.Accepted.{IsAccepted}
-use Rattle.rf_run.specs.Commands.{problem_file}
-use Rattle.rf_run.specs.Ends.{EndsAs, Input, IsStored, MissesFile, NoReadFailed, WasRead, second_name}
-use Rattle.rf_run.specs.Refuses.{RefusesProblem}
-use Rattle.rf_run.specs.Stages.{EndsOver, IsCut, end_of_stop}
+use Rattle.rf_run.specs.Answers.{Answers}
+use Rattle.rf_run.specs.Commands.{as_list, files_of, problem_file}
+use Rattle.rf_run.specs.Ends.{EndsAs, Input, IsRead, IsStored, IsStoredInput, IsSubject, MissesFile, NoReadFailed, WasRead, second_name}
+use Rattle.rf_run.specs.Leaves.{IsRightEnd}
+use Rattle.rf_run.specs.Refuses.{RefusesProblem, RefusesSecond}
+use Rattle.rf_run.specs.Stages.{EndsAfter, EndsOn, EndsOver, IsCut, IsStoredSecond, ReadOfSecondFailed, end_of_stop}
+use Rattle.rf_run.specs.declared.end.Cut.{Cut}
 use Rattle.rf_run.specs.declared.end.Cut.TheVariants.{ReadFault, Memory}
 use Rattle.rf_run.specs.declared.end.End.{End}
 use Rattle.rf_run.specs.declared.end.End.TheVariants.{Usage, Refused as EndsRefused, Answered}
 use Rattle.rf_run.specs.declared.refusal.Refusal.{Refusal}
 use Rattle.rf_run.specs.declared.stop.Stop.{Stop}
 use Rattle.rf_run.specs.declared.stop.Stop.TheVariants.{Refused, Cut as WasCut}
-use Rattle.rf_run.proofs.ByCommand.{accepted_of, refuses_problem, refuses_subject}
-use Rattle.rf_run.proofs.Stores.{bytes_of, bytes_read, read_told, told_there}
+use Rattle.rf_run.proofs.ByCommand.{accepted_of, of_second, refuses_problem, refuses_subject, subject_of}
+use Rattle.rf_run.proofs.Stores.{bytes_of, bytes_read, failed_later, read_same, read_told, stored_same, told_there, unfailed_later}
 
 -- what is known of the one file
 pub stored_of : (s : FolderState) (file : Option (List ℕ)) (name bytes : List ℕ) → file ≡ Some name → IsStored s file bytes → Stores s name bytes
@@ -58,7 +62,7 @@ unopened_missing s m c name (Refused r) known misses =
     ]
 
 -- a stage that was cut short though no read failed, ran out of memory
-cut_short :
+pub cut_short :
     (T : Type 0) (end : End) (stop : Stop) → IsCut stop → (stop ≡ WasCut ReadFault → T) → (T → ⊥) →
     MatchResult (end_of_stop stop) (λ e. e ≡ end) (λ cut. cut ≡ Memory)
 cut_short T end (Refused r) cut fault unfailed = absurd cut
@@ -91,3 +95,105 @@ pub record IsOpened (s : FolderState) (c : Command) (name : List ℕ) (p : Probl
   pub ok : (bytes : List ℕ) × IsTold s name bytes × IsAccepted bytes p
   pub accepted : (bytes : List ℕ) (q : Problem) → Stores s name bytes → IsAccepted bytes q → p ≡ q
   pub refuses : (bytes : List ℕ) (r : Refusal) → Stores s name bytes → RefusesProblem bytes r → ⊥
+
+-- how the command ended after that, on its second file
+pub record IsRest (m n : FolderState) (c : Command) (p : Problem) (result : Result End Cut) : Type 0 where
+  pub ended : IfOk result (EndsAfter m c p)
+  pub right : (second : List ℕ) → IsStoredSecond m c second → IfOk result (IsRightEnd c p second)
+  pub fault : IsErrOf result ReadFault → ReadOfSecondFailed m n c
+  pub missing : (name : List ℕ) → second_name c ≡ Some name → IsMissing m name → IsErr result
+  pub complete :
+      (second : List ℕ) (end : End) → EndsOn c p second end → IsStoredSecond m c second → NoReadFailed m n (second_name c)
+      → MatchResult result (λ e. e ≡ end) (λ cut. cut ≡ Memory)
+
+-- the second file is told in the same way after the problem was read
+second_told : (s m : FolderState) (c : Command) (second : List ℕ) → SameFiles s m → IsRead m (second_name c) second → IsRead s (second_name c) second
+second_told s m c second same read = read_same s m (second_name c) second same read
+
+second_stored :
+    (s m : FolderState) (c : Command) (second : List ℕ) → SameFiles s m → IsRead s (second_name c) second → IsStored s (second_name c) second →
+    IsStoredSecond m c second
+second_stored s m c second same told stored = record {
+  told = read_same m s (second_name c) second (λ name. sym (same name)) told;
+  stored = stored_same s m (second_name c) second same stored;
+}
+
+pub opened_ended :
+    (s m n : FolderState) (c : Command) (name : List ℕ) (p : Problem) (result : Result End Cut) → IsOpened s c name p → SameFiles s m →
+    IsRest m n c p result → IfOk result (EndsOver s c)
+opened_ended s m n c name p (Err cut) opened same rest = tt
+opened_ended s m n c name p (Ok end) opened same rest =
+    let input : Input = record { problem = opened.ok.0; second = rest.ended.second } in
+    record {
+      input = input;
+      told = record {
+        problem = read_told s (problem_file c) name opened.ok.0 opened.named opened.ok.1;
+        second = second_told s m c rest.ended.second same rest.ended.told;
+      };
+      ends = by_case end input (subject_of c input p name opened.named opened.ok.2) rest.ended.ends;
+    }
+  where
+    by_case : (end : End) (i : Input) → IsSubject c i p → EndsOn c p i.second end → EndsAs c i end
+    by_case Usage i subject ends = ends
+    by_case (EndsRefused r) i subject ends = inr (p, subject, ends)
+    by_case (Answered a) i subject ends = (p, subject, ends)
+
+-- the problem of an input that is told is the one that was read
+same_problem :
+    (s : FolderState) (c : Command) (name : List ℕ) (p : Problem) → IsOpened s c name p → (i : Input) (q : Problem) →
+    IsStored s (problem_file c) i.problem → IsSubject c i q → p ≡ q
+same_problem s c name p opened i q stored subject =
+    opened.accepted i.problem q (stored_of s (problem_file c) name i.problem opened.named stored) (accepted_of c i q subject)
+
+pub opened_right :
+    (s m n : FolderState) (c : Command) (name : List ℕ) (p : Problem) (result : Result End Cut) → IsOpened s c name p → SameFiles s m →
+    IsRest m n c p result → (i : Input) (q : Problem) → IsStoredInput s c i → IsSubject c i q → IfOk result (IsRightEnd c q i.second)
+opened_right s m n c name p result opened same rest i q stored subject =
+    let here = rest.right i.second (second_stored s m c i.second same stored.told.second stored.second) in
+    subst (λ x. IfOk result (IsRightEnd c x i.second)) (same_problem s c name p opened i q stored.problem subject) here
+
+pub opened_fault :
+    (s m n : FolderState) (c : Command) (p : Problem) (result : Result End Cut) → NoneFell s m → IsRest m n c p result →
+    IsErrOf result ReadFault → (name : List ℕ) × Contains (files_of c) name × ReadFailed s n name
+opened_fault s m n c p result later rest is =
+    let failed = rest.fault is in
+    (failed.name, among (second_name c) failed.name failed.named, failed_later s m n failed.name later failed.failed)
+  where
+    among : (o : Option (List ℕ)) (name : List ℕ) → o ≡ Some name → Contains (as_list (problem_file c) ++ as_list o) name
+    among o name is =
+        let last : Contains (name ∷ []) name = (0, omega arith, refl) in
+        rw is (Contains-append_right (as_list (problem_file c)) (name ∷ []) name last)
+
+problem_there :
+    (s : FolderState) (c : Command) (name : List ℕ) (p : Problem) → IsOpened s c name p → (other : List ℕ) → problem_file c ≡ Some other →
+    IsMissing s other → ⊥
+problem_there s c name p opened other named missing =
+    let names : other ≡ name = (let here = sym named ∙ opened.named in cc) in
+    told_there s name opened.ok.0 opened.ok.1 (subst (IsMissing s) names missing)
+
+pub opened_missing :
+    (s m n : FolderState) (c : Command) (name : List ℕ) (p : Problem) (result : Result End Cut) → IsOpened s c name p → SameFiles s m →
+    IsRest m n c p result → MissesFile s c → IsErr result
+opened_missing s m n c name p result opened same rest misses = elim misses [
+  | inl one ↦ absurd (problem_there s c name p opened one.0 one.1 one.2)
+  | inr one ↦ rest.missing one.name one.named (same one.name ∙ one.missing)
+]
+
+pub opened_complete :
+    (s m n : FolderState) (c : Command) (name : List ℕ) (p : Problem) (result : Result End Cut) → IsOpened s c name p → SameFiles s m →
+    NoneFell s m → IsRest m n c p result → (i : Input) (end : End) → EndsAs c i end → WasRead s n c i end →
+    MatchResult result (λ e. e ≡ end) (λ cut. cut ≡ Memory)
+opened_complete s m n c name p result opened same later rest i Usage ends was = absurd ends
+opened_complete s m n c name p result opened same later rest i (EndsRefused r) ends was = elim ends [
+  | inl subject ↦ absurd (opened.refuses i.problem r (stored_of s (problem_file c) name i.problem opened.named was.problem) (refuses_problem c i r subject))
+  | inr one ↦ (let reads = of_second c one.0 i.second r one.2 in
+      let is = same_problem s c name p opened i one.0 was.problem one.1 in
+      rest.complete i.second (EndsRefused r) (subst (λ x. RefusesSecond c x i.second r) (sym is) one.2)
+      (second_stored s m c i.second same was.told.second (was.second reads))
+      (unfailed_later s m n (second_name c) later (was.second_read reads)))
+]
+opened_complete s m n c name p result opened same later rest i (Answered a) ends was =
+    let is = same_problem s c name p opened i ends.0 was.problem ends.1 in
+    rest.complete i.second (Answered a) (subst (λ x. Answers c x i.second a) (sym is) ends.2)
+    (second_stored s m c i.second same was.told.second (was.second refl))
+    (unfailed_later s m n (second_name c) later (was.second_read refl))

@@ -1,89 +1,69 @@
--- A run after its files: the answer of the job.
+-- A command that read its second file whole: its answer.
 use Rattle.std.proofs.Common.{◌≡◌, ◌∙◌, ◌⊎◌, ℕ, List, [], Option, None, Some, Result, Ok, Err, MatchResult, refl, sym, ap, subst, inl, inr}
 use Rattle.rf_failure.specs.Answers.{Answers as Decides}
 use Rattle.rf_failure.specs.declared.Failure.{Failure}
 use Rattle.rf_failure.specs.declared.Failure.TheVariants.{Fault, Memory}
-use Rattle.rf_io.specs.Folder.{FolderState, SameFiles}
+use Rattle.rf_io.specs.Folder.{FolderState, IsMissing}
 use Rattle.rf_problem.specs.declared.problem.Problem.{Problem}
 use Rattle.rf_words.specs.declared.request.Command.{Command}
 use Rattle.rf_run.specs.Answers.{Answers, IsRight}
-use Rattle.rf_run.specs.Commands.{SecondFile, problem_file, second_file}
-use Rattle.rf_run.specs.Ends.{EndsAs, Input, IsInput, IsRead, IsStored, IsStoredInput, IsSubject, WasRead, second_name}
+use Rattle.rf_run.specs.Commands.{SecondFile, second_file}
+use Rattle.rf_run.specs.Ends.{IsRead, second_name}
 use Rattle.rf_run.specs.Refuses.{RefusesSecond}
-use Rattle.rf_run.specs.Stages.{EndsOver, IsSecond}
+use Rattle.rf_run.specs.Stages.{EndsAfter, EndsOn, IsSecond, IsStoredSecond}
 use Rattle.rf_run.specs.declared.end.End.{End}
 use Rattle.rf_run.specs.declared.end.End.TheVariants.{Usage, Refused as EndsRefused, Answered}
 use Rattle.rf_run.specs.declared.end.Reply.{Reply}
 use Rattle.rf_run.specs.declared.refusal.Refusal.{Refusal}
-use Rattle.rf_run.proofs.ByCommand.{accepted_of, of_second, refuses_problem, subject_of}
-use Rattle.rf_run.proofs.Opened.{IsOpened, stored_of}
-use Rattle.rf_run.proofs.Seconds.{name_of}
-use Rattle.rf_run.proofs.Stores.{read_told, told_same, told_stored}
+use Rattle.rf_run.proofs.Opened.{stored_of}
+use Rattle.rf_run.proofs.Seconds.{name_of, second_there}
+use Rattle.rf_run.proofs.Stores.{read_told, told_stored}
 
--- the second file was had: its bytes are those of the input
-second_read : (s m : FolderState) (c : Command) (bytes : List ℕ) → SameFiles s m → IsSecond m (second_file c) bytes → IsRead s (second_name c) bytes
-second_read s m c bytes same second = by_case (second_file c) refl second
+-- the second file was had: its bytes are those that the folder tells
+second_read : (m : FolderState) (c : Command) (bytes : List ℕ) → IsSecond m (second_file c) bytes → IsRead m (second_name c) bytes
+second_read m c bytes second = by_case (second_file c) refl second
   where
-    by_case : (f : Option SecondFile) → second_file c ≡ f → IsSecond m f bytes → IsRead s (second_name c) bytes
+    by_case : (f : Option SecondFile) → second_file c ≡ f → IsSecond m f bytes → IsRead m (second_name c) bytes
     by_case None is second = rw is second
-    by_case (Some f) is second = read_told s (second_name c) f.name bytes (name_of c f is) (told_same s m f.name bytes same second.0)
+    by_case (Some f) is second = read_told m (second_name c) f.name bytes (name_of c f is) second.0
 
 second_is :
-    (s m : FolderState) (c : Command) (i : Input) (bytes : List ℕ) → SameFiles s m → IsInput s c i → IsStored s (second_name c) i.second →
-    IsSecond m (second_file c) bytes → bytes ≡ i.second
-second_is s m c i bytes same input stored second = by_case (second_file c) refl second
+    (m : FolderState) (c : Command) (bytes second : List ℕ) → IsStoredSecond m c second → IsSecond m (second_file c) bytes → bytes ≡ second
+second_is m c bytes second stored had = by_case (second_file c) refl had
   where
-    by_case : (f : Option SecondFile) → second_file c ≡ f → IsSecond m f bytes → bytes ≡ i.second
-    by_case None is second =
-        let none : i.second ≡ [] = rw is at input.second in
-        second ∙ sym none
-    by_case (Some f) is second =
-        told_stored s f.name bytes i.second (told_same s m f.name bytes same second.0)
-        (stored_of s (second_name c) f.name i.second (name_of c f is) stored)
-
--- what the run read
-abbrev pub read_input : (s : FolderState) (c : Command) (name : List ℕ) (p : Problem) → IsOpened s c name p → List ℕ → Input
-read_input s c name p opened bytes = record { problem = opened.ok.0; second = bytes }
-
-input_told :
-    (s m : FolderState) (c : Command) (name : List ℕ) (p : Problem) (bytes : List ℕ) (opened : IsOpened s c name p) → SameFiles s m →
-    IsSecond m (second_file c) bytes → IsInput s c (read_input s c name p opened bytes)
-input_told s m c name p bytes opened same second = record {
-  problem = read_told s (problem_file c) name opened.ok.0 opened.named opened.ok.1;
-  second = second_read s m c bytes same second;
-}
+    by_case : (f : Option SecondFile) → second_file c ≡ f → IsSecond m f bytes → bytes ≡ second
+    by_case None is had =
+        let none : second ≡ [] = rw is at stored.told in
+        had ∙ sym none
+    by_case (Some f) is had =
+        told_stored m f.name bytes second had.0 (stored_of m (second_name c) f.name second (name_of c f is) stored.stored)
 
 pub reply_ended :
-    (s m : FolderState) (c : Command) (name : List ℕ) (p : Problem) (bytes : List ℕ) (reply : Reply) → IsOpened s c name p → SameFiles s m →
-    IsSecond m (second_file c) bytes → Answers c p bytes reply → EndsOver s c (Answered reply)
-reply_ended s m c name p bytes reply opened same second answers =
-    let input = read_input s c name p opened bytes in
-    record {
-      input = input;
-      told = input_told s m c name p bytes opened same second;
-      ends = (p, subject_of c input p name opened.named opened.ok.2, answers);
-    }
+    (m : FolderState) (c : Command) (p : Problem) (bytes : List ℕ) (reply : Reply) → IsSecond m (second_file c) bytes →
+    Answers c p bytes reply → EndsAfter m c p (Answered reply)
+reply_ended m c p bytes reply had answers = record { second = bytes; told = second_read m c bytes had; ends = answers }
 
 pub refusal_ended :
-    (s m : FolderState) (c : Command) (name : List ℕ) (p : Problem) (bytes : List ℕ) (r : Refusal) → IsOpened s c name p → SameFiles s m →
-    IsSecond m (second_file c) bytes → RefusesSecond c p bytes r → EndsOver s c (EndsRefused r)
-refusal_ended s m c name p bytes r opened same second refuses =
-    let input = read_input s c name p opened bytes in
-    record {
-      input = input;
-      told = input_told s m c name p bytes opened same second;
-      ends = inr (p, subject_of c input p name opened.named opened.ok.2, refuses);
-    }
+    (m : FolderState) (c : Command) (p : Problem) (bytes : List ℕ) (r : Refusal) → IsSecond m (second_file c) bytes →
+    RefusesSecond c p bytes r → EndsAfter m c p (EndsRefused r)
+refusal_ended m c p bytes r had refuses = record { second = bytes; told = second_read m c bytes had; ends = refuses }
 
 pub reply_right :
-    (s m : FolderState) (c : Command) (name : List ℕ) (p : Problem) (bytes : List ℕ) (reply : Reply) → IsOpened s c name p → SameFiles s m →
-    IsSecond m (second_file c) bytes → IsRight c p bytes reply → (i : Input) (q : Problem) → IsStoredInput s c i → IsSubject c i q →
-    IsRight c q i.second reply
-reply_right s m c name p bytes reply opened same second right i q stored subject =
-    let same_problem : p ≡ q =
-    opened.accepted i.problem q (stored_of s (problem_file c) name i.problem opened.named stored.problem) (accepted_of c i q subject) in
-    let same_bytes : bytes ≡ i.second = second_is s m c i bytes same stored.told stored.second second in
-    subst (λ b. IsRight c q b reply) same_bytes (subst (λ x. IsRight c x bytes reply) same_problem right)
+    (m : FolderState) (c : Command) (p : Problem) (bytes : List ℕ) (reply : Reply) → IsSecond m (second_file c) bytes →
+    IsRight c p bytes reply → (second : List ℕ) → IsStoredSecond m c second → IsRight c p second reply
+reply_right m c p bytes reply had right second stored = subst (λ b. IsRight c p b reply) (second_is m c bytes second stored had) right
+
+-- a second file that was had isn't missing
+pub second_had :
+    (m : FolderState) (c : Command) (bytes : List ℕ) → IsSecond m (second_file c) bytes → (name : List ℕ) → second_name c ≡ Some name →
+    IsMissing m name → ⊥
+second_had m c bytes had name named missing = by_case (second_file c) refl had
+  where
+    by_case : (f : Option SecondFile) → second_file c ≡ f → IsSecond m f bytes → ⊥
+    by_case None is had =
+        let none : second_name c ≡ None = rw is refl in
+        absurd cc
+    by_case (Some f) is had = second_there m c name named missing f is bytes had.0
 
 -- the end of a run whose job answers so
 abbrev pub ComesTo : Result Reply (Failure Refusal) → End → Type 0
@@ -92,32 +72,19 @@ ComesTo (Err (Fault r)) end = EndsRefused r ≡ end
 ComesTo (Err Memory) end = Unit {0}
 
 pub answer_complete :
-    (s m n : FolderState) (c : Command) (name : List ℕ) (p : Problem) (bytes : List ℕ) (result : Result Reply (Failure Refusal)) →
-    IsOpened s c name p → SameFiles s m → IsSecond m (second_file c) bytes →
-    Decides (λ (a : Reply). a) (Answers c p bytes) (RefusesSecond c p bytes) result → (i : Input) (end : End) → EndsAs c i end →
-    WasRead s n c i end → ComesTo result end
-answer_complete s m n c name p bytes result opened same second decides i Usage ends was = absurd ends
-answer_complete s m n c name p bytes result opened same second decides i (EndsRefused r) ends was = elim ends [
-  | inl subject ↦ absurd (opened.refuses i.problem r (stored_of s (problem_file c) name i.problem opened.named was.problem) (refuses_problem c i r subject))
-  | inr one ↦ (let same_problem : p ≡ one.0 =
-      opened.accepted i.problem one.0 (stored_of s (problem_file c) name i.problem opened.named was.problem) (accepted_of c i one.0 one.1) in
-      let same_bytes = second_is s m c i bytes same was.told (was.second (of_second c one.0 i.second r one.2)) second in
-      let here : RefusesSecond c p bytes r =
-      subst (λ b. RefusesSecond c p b r) (sym same_bytes) (subst (λ x. RefusesSecond c x i.second r) (sym same_problem) one.2) in
-      stuck result (decides.stuck r here))
-]
+    (m : FolderState) (c : Command) (p : Problem) (bytes : List ℕ) (result : Result Reply (Failure Refusal)) →
+    IsSecond m (second_file c) bytes → Decides (λ (a : Reply). a) (Answers c p bytes) (RefusesSecond c p bytes) result →
+    (second : List ℕ) (end : End) → EndsOn c p second end → IsStoredSecond m c second → ComesTo result end
+answer_complete m c p bytes result had decides second Usage ends stored = absurd ends
+answer_complete m c p bytes result had decides second (EndsRefused r) ends stored =
+    stuck result (decides.stuck r (subst (λ b. RefusesSecond c p b r) (sym (second_is m c bytes second stored had)) ends))
   where
     stuck : (result : Result Reply (Failure Refusal)) → (result ≡ Err (Fault r)) ⊎ (result ≡ Err Memory) → ComesTo result (EndsRefused r)
     stuck (Ok reply) is = elim is [ inl e ↦ absurd cc | inr e ↦ absurd cc ]
     stuck (Err (Fault x)) is = elim is [ inl e ↦ cc | inr e ↦ absurd cc ]
     stuck (Err Memory) is = tt
-answer_complete s m n c name p bytes result opened same second decides i (Answered a) ends was =
-    let same_problem : p ≡ ends.0 =
-    opened.accepted i.problem ends.0 (stored_of s (problem_file c) name i.problem opened.named was.problem) (accepted_of c i ends.0 ends.1) in
-    let same_bytes = second_is s m c i bytes same was.told (was.second refl) second in
-    let here : Answers c p bytes a =
-    subst (λ b. Answers c p b a) (sym same_bytes) (subst (λ x. Answers c x i.second a) (sym same_problem) ends.2) in
-    answered result (decides.found a here)
+answer_complete m c p bytes result had decides second (Answered a) ends stored =
+    answered result (decides.found a (subst (λ b. Answers c p b a) (sym (second_is m c bytes second stored had)) ends))
   where
     answered : (result : Result Reply (Failure Refusal)) → MatchResult result (λ x. x ≡ a) (λ e. e ≡ Memory) → ComesTo result (Answered a)
     answered (Ok reply) is = ap Answered is

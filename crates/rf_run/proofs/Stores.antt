@@ -1,7 +1,7 @@
 -- What is told of files, before and after reads.
-use Rattle.std.proofs.Common.{◌≡◌, ℕ, List, [], Option, None, Some, IfSome, refl, arith, subst}
+use Rattle.std.proofs.Common.{◌≡◌, ℕ, List, [], Option, None, Some, IfSome, refl, sym, arith, subst, ◌∙◌}
 use Rattle.rf_io.specs.Folder.{FolderState, IsMissing, IsTold, NoneFell, ReadFailed, SameFiles, Stores, told}
-use Rattle.rf_run.specs.Ends.{IsRead}
+use Rattle.rf_run.specs.Ends.{IsRead, IsStored, NoReadFailed}
 
 -- a file that is told has the bytes that are stored
 pub told_stored : (s : FolderState) (name bytes file : List ℕ) → IsTold s name bytes → Stores s name file → bytes ≡ file
@@ -52,3 +52,17 @@ failed_later s m n name later failed = omega (arith, later name, failed)
 
 pub failed_earlier : (s m n : FolderState) (name : List ℕ) → NoneFell m n → ReadFailed s m name → ReadFailed s n name
 failed_earlier s m n name later failed = omega (arith, later name, failed)
+
+-- what was read, and what is stored, are the same where a folder tells the same
+pub read_same : (s m : FolderState) (file : Option (List ℕ)) (bytes : List ℕ) → SameFiles s m → IsRead m file bytes → IsRead s file bytes
+read_same s m None bytes same read = read
+read_same s m (Some name) bytes same read = λ stored stores. read stored (same name ∙ stores)
+
+pub stored_same : (s m : FolderState) (file : Option (List ℕ)) (bytes : List ℕ) → SameFiles s m → IsStored s file bytes → IsStored m file bytes
+stored_same s m None bytes same stored = stored
+stored_same s m (Some name) bytes same stored = same name ∙ stored
+
+-- no read that failed among all, none that failed after some
+pub unfailed_later : (s m n : FolderState) (file : Option (List ℕ)) → NoneFell s m → NoReadFailed s n file → NoReadFailed m n file
+unfailed_later s m n None later unfailed = unfailed
+unfailed_later s m n (Some name) later unfailed = λ failed. unfailed (failed_later s m n name later failed)

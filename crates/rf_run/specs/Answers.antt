@@ -1,17 +1,24 @@
 -- What each command answers, and what its answers promise to the user.
-use Rattle.std.specs.Prelude.{◌≡◌, ℕ, List}
+use Rattle.std.specs.Prelude.{◌≡◌, ◌≤◌, ◌⊎◌, ℕ, List, length, take}
 use Rattle.rf_problem.specs.declared.problem.Problem.{Problem}
+use Rattle.rf_check.specs.Documents.{IsTreeVerdict, MeetsRejected}
+use Rattle.rf_check.specs.declared.verdict.TreeVerdict.{TreeVerdict}
 use Rattle.rf_graph.specs.Violations.{IsVerdict, Sat}
 use Rattle.rf_graph.specs.declared.graph.Graph.{Graph}
 use Rattle.rf_graph.specs.declared.verdict.Verdict.{Verdict}
 use Rattle.rf_state.specs.State.{IsRoot, State}
+use Rattle.rf_tree.specs.Document.{IsTreeDocument}
+use Rattle.rf_tree.specs.Lines.{CanStand, Open, Valid}
+use Rattle.rf_tree.specs.declared.line.Line.{Line}
 use Rattle.rf_valuation.specs.Valuation.{IsValuation}
 use Rattle.rf_words.specs.declared.request.Command.{Command}
-use Rattle.rf_words.specs.declared.request.Command.TheVariants.{Check, Evaluate}
+use Rattle.rf_words.specs.declared.request.Command.TheVariants.{Check, Evaluate, Verify}
 use Rattle.rf_run.specs.declared.end.Reply.{Reply}
 use Rattle.rf_run.specs.declared.end.Sign.{Sign}
 use Rattle.rf_run.specs.declared.end.Sign.TheVariants.{Yes, No, Unfinished}
 use Rattle.rf_run.specs.Accepted.{IsDrawn}
+use Rattle.rf_run.specs.declared.refusal.TheConstants.{TREE_LIMIT}
+use Rattle.rf_run.specs.TreeVerdict.{sign_of_tree, tree_verdict_text}
 use Rattle.rf_run.specs.Verdict.{sign_of, verdict_text}
 
 -- `check` answers the verdict on the graph
@@ -30,10 +37,19 @@ pub record AnswersEvaluate (p : Problem) (reply : Reply) : Type 0 where
   pub text : IsValuation p root reply.text
   pub sign : reply.sign ≡ Yes
 
+-- `verify` answers what the file is as a tree; where the file is longer than its limit, a line is rejected within that
+pub record AnswersVerify (p : Problem) (second : List ℕ) (reply : Reply) : Type 0 where
+  pub verdict : TreeVerdict
+  pub judged : IsTreeVerdict p second verdict
+  pub within : (length second ≤ TREE_LIMIT) ⊎ ((line : ℕ) × MeetsRejected p (take TREE_LIMIT second) line)
+  pub text : reply.text ≡ tree_verdict_text verdict
+  pub sign : reply.sign ≡ sign_of_tree verdict
+
 -- the answer of a command on its problem and the bytes of its second file
 abbrev pub Answers : Command → Problem → List ℕ → Reply → Type 0
 Answers (Check file graph) p second reply = AnswersCheck p second reply
 Answers (Evaluate file) p second reply = AnswersEvaluate p reply
+Answers (Verify file tree) p second reply = AnswersVerify p second reply
 Answers _ p second reply = ⊥
 
 -- a yes says that the graph satisfies the problem, a no that it doesn't
@@ -42,8 +58,22 @@ IsRightVerdict p g Yes = Sat p g
 IsRightVerdict p g No = Sat p g → ⊥
 IsRightVerdict p g Unfinished = ⊥
 
+-- a yes says that the lines close all that the problem leaves, an unfinished that more lines may come, a no that no document of a tree
+-- that can stand has these lines
+abbrev pub IsRightTree : Problem → List Line → Sign → Type 0
+IsRightTree p lines Yes = Valid p lines
+IsRightTree p lines Unfinished = (n : ℕ) × Open p lines n
+IsRightTree p lines No = CanStand p lines → ⊥
+
+-- what `verify` promises: its answer is right of the lines of which the file is a document, and a yes says that no graph satisfies the
+-- problem, whoever wrote the tree
+pub record IsRightRefutation (p : Problem) (second : List ℕ) (reply : Reply) : Type 0 where
+  pub lines : (lines : List Line) → IsTreeDocument lines second → IsRightTree p lines reply.sign
+  pub no_graph : reply.sign ≡ Yes → (g : Graph) → Sat p g → ⊥
+
 -- what an answer promises, in the user's words
 abbrev pub IsRight : Command → Problem → List ℕ → Reply → Type 0
 IsRight (Check file graph) p second reply = (g : Graph) → IsDrawn second p g → IsRightVerdict p g reply.sign
 IsRight (Evaluate file) p second reply = (s : State) → IsRoot p s → IsValuation p s reply.text
+IsRight (Verify file tree) p second reply = IsRightRefutation p second reply
 IsRight _ p second reply = ⊥

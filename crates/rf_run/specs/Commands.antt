@@ -11,6 +11,7 @@ use Rattle.rf_run.specs.declared.refusal.TheConstants.{GRAPH_LIMIT, SCRIPT_LIMIT
 abbrev pub IsBuilt : Command → Type 0
 IsBuilt (Check file graph) = Unit {0}
 IsBuilt (Evaluate file) = Unit {0}
+IsBuilt (Verify file tree) = Unit {0}
 IsBuilt _ = ⊥
 
 -- the file of the problem
@@ -34,6 +35,11 @@ second_file (Check file graph) = Some (record { name = graph; sort = Graph; limi
 second_file (Verify file tree) = Some (record { name = tree; sort = Tree; limit = TREE_LIMIT })
 second_file (Session file script) = Some (record { name = script; sort = Script; limit = SCRIPT_LIMIT })
 second_file _ = None
+
+-- whether a command reads its second file whole before it looks at it; `verify` judges a tree as it reads it
+abbrev pub IsWhole : Command → Type 0
+IsWhole (Verify file tree) = ⊥
+IsWhole _ = Unit {0}
 
 -- the one thing, or nothing, as a list
 abbrev pub as_list : {A : Type 0} → Option A → List A

@@ -8,4 +8,5 @@ pub mod Line
 pub mod Refuses
 pub mod Stages
 pub mod Verdict
+pub mod TreeVerdict
 pub mod Jobs

@@ -1,6 +1,5 @@
 -- How the verdict on a graph is printed.
-use Rattle.std.specs.Prelude.{◌≡◌, ◌<◌, ℕ, List, [], ◌∷◌, ◌++◌, length, codes, decimal, true}
-use Rattle.std.specs.List.{flat_map}
+use Rattle.std.specs.Prelude.{◌≡◌, ◌<◌, ℕ, List, [], ◌∷◌, ◌++◌, length, codes, true}
 use Rattle.rf_problem.specs.declared.problem.Problem.{Problem}
 use Rattle.rf_problem.specs.Valid.{is_declared}
 use Rattle.rf_graph.specs.Document.{object_name, reference_name, symbol_name}
@@ -8,12 +7,9 @@ use Rattle.rf_graph.specs.declared.verdict.Verdict.{Verdict}
 use Rattle.rf_graph.specs.declared.verdict.Verdict.TheVariants.{Satisfied, Violated}
 use Rattle.rf_graph.specs.declared.verdict.Violation.{Violation}
 use Rattle.rf_graph.specs.declared.verdict.Violation.TheVariants.{Class, Edge, Opposite, Degree, Containers, Cycle, Object, Asserted, Scope}
+use Rattle.rf_tree.specs.Document.{spaced}
 use Rattle.rf_run.specs.declared.end.Sign.{Sign}
 use Rattle.rf_run.specs.declared.end.Sign.TheVariants.{Yes, No}
-
--- numbers, each after a space
-abbrev pub spaced : List ℕ → List ℕ
-spaced ns = flat_map (λ n. codes " " ++ decimal n) ns
 
 -- a violation as it is printed: its kind, and its place
 abbrev pub violation_text : Problem → Violation → List ℕ

@@ -25,10 +25,6 @@ impl Job for CheckJob {
 
     ghost command = { λ job. Check job.file job.graph };
 
-    fn problem_file(&self) -> &str {
-        self.file.as_str()
-    }
-
     fn second_file(&self) -> Option<Second<'_>> {
         Some(Second {
             name: self.graph.as_str(),

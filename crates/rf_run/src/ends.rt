@@ -1,80 +1,22 @@
 //! How a run ends, by its words and its files.
 
-ghost use Rattle.std.specs.Prelude.{◌≡◌, None, IfSome, IfOk, IsErr, IsErrOf, MatchResult};
+ghost use Rattle.std.specs.Prelude.{◌≡◌, IfOk, IsErr, IsErrOf, MatchResult};
 ghost use Rattle.rf_io.specs.Folder.{NoneFell, SameFiles};
 ghost use Rattle.rf_problem.specs.declared.problem.Problem.{Problem};
 ghost use Rattle.rf_words.specs.Meaning.{IsCommand};
 ghost use Rattle.rf_words.specs.declared.request.Command.{Command};
 ghost use Rattle.rf_run.specs.Commands.{IsBuilt};
 ghost use Rattle.rf_run.specs.Ends.{AFileFailed, Ends, HasEnd, Input, IsStoredInput, IsSubject, MissesFile, WasRead};
-ghost use Rattle.rf_run.specs.Jobs.{command_of};
 ghost use Rattle.rf_run.specs.Leaves.{IsRightEnd};
 ghost use Rattle.rf_run.specs.declared.end.End.{End};
 
-use crate::Refusal;
-use crate::check::CheckJob;
-use crate::end::{Cut, End, Reply};
-use crate::evaluate::EvaluateJob;
+use crate::built::job_of;
+use crate::end::{Cut, End};
 use crate::files::over_files;
-use crate::job::{Job, Second};
-use rf_failure::Failure;
 use rf_io::Folder;
-use rf_problem::Problem;
 use rf_text::Text;
-use rf_words::{Command, WordsError, command};
+use rf_words::{WordsError, command};
 use std::alloc::Global;
-
-// A command that is built.
-#[derive(Drop)]
-enum BuiltJob {
-    Check(CheckJob),
-    Evaluate(EvaluateJob),
-}
-
-impl Job for BuiltJob {
-    ghost use Rattle.rf_run.specs.Jobs.{command_of};
-
-    ghost command = { command_of };
-
-    fn problem_file(&self) -> &str {
-        match self {
-            BuiltJob::Check(job) => job.problem_file(),
-            BuiltJob::Evaluate(job) => job.problem_file(),
-        }
-    }
-
-    fn second_file(&self) -> Option<Second<'_>> {
-        match self {
-            BuiltJob::Check(job) => job.second_file(),
-            BuiltJob::Evaluate(job) => job.second_file(),
-        }
-    }
-
-    fn answer(
-        &self,
-        alloc: Global,
-        problem: &Problem,
-        second: &[u8],
-    ) -> Result<Reply, Failure<Refusal>> {
-        match self {
-            BuiltJob::Check(job) => job.answer(alloc, problem, second),
-            BuiltJob::Evaluate(job) => job.answer(alloc, problem, second),
-        }
-    }
-}
-
-// The job of a command, where it is built.
-fn job_of(command: Command) -> Option<BuiltJob>
-    ensures some { IfSome result (λ job. command ≡ command_of job) }
-    ensures built { IfSome result (λ job. IsBuilt (command_of job)) }
-    ensures none { result ≡ None → IsBuilt command → ⊥ }
-{
-    match command {
-        Command::Check { file, graph } => Some(BuiltJob::Check(CheckJob { file, graph })),
-        Command::Evaluate { file } => Some(BuiltJob::Evaluate(EvaluateJob { file })),
-        _ => None,
-    }
-}
 
 /// How a run with these words ends over the files of a folder; an answer is computed whole.
 pub fn end_of<F: Folder>(alloc: Global, words: &[Text], folder: &mut F) -> Result<End, Cut>

@@ -22,10 +22,6 @@ impl Job for EvaluateJob {
 
     ghost command = { λ job. Evaluate job.file };
 
-    fn problem_file(&self) -> &str {
-        self.file.as_str()
-    }
-
     fn second_file(&self) -> Option<Second<'_>> {
         None
     }

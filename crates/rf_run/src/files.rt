@@ -1,20 +1,23 @@
 //! A job over the files of a folder.
 
-ghost use Rattle.std.specs.Prelude.{◌≡◌, ◌⊎◌, ℕ, List, Contains, IfOk, IfErr, IsErr, IsErrOf, IsErrAnd, MatchResult};
-ghost use Rattle.rf_io.specs.Folder.{IsTold, NoneFell, ReadFailed, SameFiles, Stores};
+ghost use Rattle.std.specs.Prelude.{◌≡◌, ◌⊎◌, ℕ, List, Some, Contains, IfOk, IfErr, IsErr, IsErrOf, IsErrAnd, MatchResult};
+ghost use Rattle.rf_io.specs.Folder.{IsMissing, IsTold, NoneFell, ReadFailed, SameFiles, Stores};
 ghost use Rattle.rf_problem.specs.declared.problem.Problem.{Problem};
 ghost use Rattle.rf_run.specs.Accepted.{IsAccepted};
 ghost use Rattle.rf_run.specs.Commands.{files_of};
-ghost use Rattle.rf_run.specs.Ends.{EndsAs, Input, IsStoredInput, IsSubject, MissesFile, WasRead};
+ghost use Rattle.rf_run.specs.Ends.{EndsAs, Input, IsStoredInput, IsSubject, MissesFile, NoReadFailed, WasRead, second_name};
 ghost use Rattle.rf_run.specs.Leaves.{IsRightEnd};
 ghost use Rattle.rf_run.specs.Refuses.{RefusesProblem};
-ghost use Rattle.rf_run.specs.Stages.{EndsOver, IsCut, IsLongSecond, IsSecond, SecondFailed, second_of, stop_of_read};
+ghost use Rattle.rf_run.specs.Jobs.{command_of};
+ghost use Rattle.rf_run.specs.Stages.{EndsAfter, EndsOn, EndsOver, IsCut, IsLongSecond, IsSecond, IsStoredSecond, ReadOfSecondFailed, SecondFailed, second_of, stop_of_read};
 ghost use Rattle.rf_run.specs.declared.end.End.{End};
 
+use crate::built::BuiltJob;
 use crate::end::{Cut, End};
 use crate::job::{Job, Second};
 use crate::refusal::PROBLEM_LIMIT;
 use crate::stop::Stop;
+use crate::verify::over_tree;
 use crate::{File, Refusal};
 use rf_failure::Failure;
 use rf_io::{Folder, ReadError, read_file};
@@ -84,36 +87,87 @@ fn read_second<F: Folder>(
     }
 }
 
+// How a command ends after its problem that reads its second file whole.
+fn over_second<F: Folder, J: Job>(
+    alloc: Global,
+    folder: &mut F,
+    job: &J,
+    problem: &Problem,
+) -> Result<End, Cut>
+    ensures ended { IfOk result (EndsAfter (F.state folder.old) (J.command job.now) problem.now) }
+    ensures right { (second : List ℕ) → IsStoredSecond (F.state folder.old) (J.command job.now) second
+        → IfOk result (IsRightEnd (J.command job.now) problem.now second) }
+    ensures fault { IsErrOf result Cut.ReadFault
+        → ReadOfSecondFailed (F.state folder.old) (F.state folder.new) (J.command job.now) }
+    ensures missing { (name : List ℕ) → second_name (J.command job.now) ≡ Some name
+        → IsMissing (F.state folder.old) name → IsErr result }
+    ensures complete { (second : List ℕ) (end : End) → EndsOn (J.command job.now) problem.now second end
+        → IsStoredSecond (F.state folder.old) (J.command job.now) second
+        → NoReadFailed (F.state folder.old) (F.state folder.new) (second_name (J.command job.now))
+        → MatchResult result (λ e. e ≡ end) (λ cut. cut ≡ Cut.Memory) }
+    ensures same { SameFiles (F.state folder.old) (F.state folder.new) }
+    ensures later { NoneFell (F.state folder.old) (F.state folder.new) }
+{
+    let second = match read_second(alloc, folder, job.second_file()) {
+        Ok(second) => second,
+        Err(stop) => return stop.end(),
+    };
+    match job.answer(alloc, problem, second.as_slice()) {
+        Ok(reply) => Ok(End::Answered(reply)),
+        Err(Failure::Fault(refusal)) => Ok(End::Refused(refusal)),
+        Err(Failure::Memory) => Err(Cut::Memory),
+    }
+}
+
+// How a command ends after its problem.
+fn after_problem<F: Folder>(
+    alloc: Global,
+    folder: &mut F,
+    job: &BuiltJob,
+    problem: &Problem,
+) -> Result<End, Cut>
+    ensures ended { IfOk result (EndsAfter (F.state folder.old) (command_of job.now) problem.now) }
+    ensures right { (second : List ℕ) → IsStoredSecond (F.state folder.old) (command_of job.now) second
+        → IfOk result (IsRightEnd (command_of job.now) problem.now second) }
+    ensures fault { IsErrOf result Cut.ReadFault
+        → ReadOfSecondFailed (F.state folder.old) (F.state folder.new) (command_of job.now) }
+    ensures missing { (name : List ℕ) → second_name (command_of job.now) ≡ Some name
+        → IsMissing (F.state folder.old) name → IsErr result }
+    ensures complete { (second : List ℕ) (end : End) → EndsOn (command_of job.now) problem.now second end
+        → IsStoredSecond (F.state folder.old) (command_of job.now) second
+        → NoReadFailed (F.state folder.old) (F.state folder.new) (second_name (command_of job.now))
+        → MatchResult result (λ e. e ≡ end) (λ cut. cut ≡ Cut.Memory) }
+    ensures same { SameFiles (F.state folder.old) (F.state folder.new) }
+    ensures later { NoneFell (F.state folder.old) (F.state folder.new) }
+{
+    match job {
+        BuiltJob::Check(job) => over_second(alloc, folder, job, problem),
+        BuiltJob::Evaluate(job) => over_second(alloc, folder, job, problem),
+        BuiltJob::Verify(job) => over_tree(alloc, folder, job, problem),
+    }
+}
+
 /// How a job ends over its files.
-pub fn over_files<F: Folder, J: Job>(alloc: Global, folder: &mut F, job: &J) -> Result<End, Cut>
-    ensures ended { IfOk result (EndsOver (F.state folder.old) (J.command job.now)) }
-    ensures right { (i : Input) (p : Problem) → IsStoredInput (F.state folder.old) (J.command job.now) i
-        → IsSubject (J.command job.now) i p
-        → IfOk result (IsRightEnd (J.command job.now) p i.second) }
+pub fn over_files<F: Folder>(alloc: Global, folder: &mut F, job: &BuiltJob) -> Result<End, Cut>
+    ensures ended { IfOk result (EndsOver (F.state folder.old) (command_of job.now)) }
+    ensures right { (i : Input) (p : Problem) → IsStoredInput (F.state folder.old) (command_of job.now) i
+        → IsSubject (command_of job.now) i p
+        → IfOk result (IsRightEnd (command_of job.now) p i.second) }
     ensures fault { IsErrOf result Cut.ReadFault → (name : List ℕ)
-        × Contains (files_of (J.command job.now)) name
+        × Contains (files_of (command_of job.now)) name
         × ReadFailed (F.state folder.old) (F.state folder.new) name }
-    ensures missing { MissesFile (F.state folder.old) (J.command job.now) → IsErr result }
+    ensures missing { MissesFile (F.state folder.old) (command_of job.now) → IsErr result }
 
     // What is told decides, unless a read failed or memory ran out.
-    ensures complete { (i : Input) (end : End) → EndsAs (J.command job.now) i end
-        → WasRead (F.state folder.old) (F.state folder.new) (J.command job.now) i end
+    ensures complete { (i : Input) (end : End) → EndsAs (command_of job.now) i end
+        → WasRead (F.state folder.old) (F.state folder.new) (command_of job.now) i end
         → MatchResult result (λ e. e ≡ end) (λ cut. cut ≡ Cut.Memory) }
 
     ensures same { SameFiles (F.state folder.old) (F.state folder.new) }
     ensures later { NoneFell (F.state folder.old) (F.state folder.new) }
 {
-    let problem = match open_problem(alloc, folder, job.problem_file()) {
-        Ok(problem) => problem,
-        Err(stop) => return stop.end(),
-    };
-    let second = match read_second(alloc, folder, job.second_file()) {
-        Ok(second) => second,
-        Err(stop) => return stop.end(),
-    };
-    match job.answer(alloc, &problem, second.as_slice()) {
-        Ok(reply) => Ok(End::Answered(reply)),
-        Err(Failure::Fault(refusal)) => Ok(End::Refused(refusal)),
-        Err(Failure::Memory) => Err(Cut::Memory),
+    match open_problem(alloc, folder, job.problem_file()) {
+        Ok(problem) => after_problem(alloc, folder, job, &problem),
+        Err(stop) => stop.end(),
     }
 }

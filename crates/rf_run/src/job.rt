@@ -1,8 +1,8 @@
-ghost use Rattle.std.specs.Prelude.{◌≡◌, IfOk, Some};
+ghost use Rattle.std.specs.Prelude.{◌≡◌, IfOk};
 ghost use Rattle.rf_failure.specs.Answers.{Answers as Decides};
 ghost use Rattle.rf_words.specs.declared.request.Command.{Command};
 ghost use Rattle.rf_run.specs.Answers.{Answers, IsRight};
-ghost use Rattle.rf_run.specs.Commands.{problem_file, second_file};
+ghost use Rattle.rf_run.specs.Commands.{IsWhole, second_file};
 ghost use Rattle.rf_run.specs.Refuses.{RefusesSecond};
 ghost use Rattle.rf_run.specs.Stages.{IsWithin, second_of};
 
@@ -20,16 +20,14 @@ pub struct Second<'a> {
     pub limit: u64,
 }
 
-/// What a command does with its problem and the bytes of its second file.
+/// What a command does with its problem and the bytes of its second file, which are read whole.
 pub trait Job {
     /// The command, with the names of its files.
     ghost command: { Self → Command };
 
-    fn problem_file(&self) -> &str
-        ensures { problem_file (command self.now) ≡ Some result.now };
-
     fn second_file(&self) -> Option<Second<'_>>
-        ensures { second_file (command self.now) ≡ second_of result };
+        ensures file { second_file (command self.now) ≡ second_of result }
+        ensures whole { IsWhole (command self.now) };
 
     /// The answer on an accepted problem and the bytes of the second file, none where there is no
     /// such file; or why these are refused.

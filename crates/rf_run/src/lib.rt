@@ -3,6 +3,7 @@
 //! `run` is all that the program does. Its contract is what the program promises.
 #![tactic(auto)]
 
+mod built;
 mod check;
 mod end;
 mod ends;
@@ -16,6 +17,7 @@ mod reply;
 mod status;
 mod stop;
 mod top;
+mod verify;
 
 pub use end::{Cut, End, Reply, Sign};
 pub use refusal::{File, Refusal};

@@ -4,8 +4,9 @@ ghost use Rattle.std.specs.Prelude.{◌≡◌, ◌++◌, IfOk, OnOk};
 ghost use Rattle.rf_graph.specs.Graph.{Fits};
 ghost use Rattle.rf_graph.specs.Violations.{IsVerdict};
 ghost use Rattle.rf_graph.specs.declared.verdict.Verdict.{Verdict};
+ghost use Rattle.rf_tree.specs.Document.{spaced};
 ghost use Rattle.rf_run.specs.Answers.{IsRightVerdict};
-ghost use Rattle.rf_run.specs.Verdict.{IsNamed, IsPrintable, sign_of, spaced, verdict_text, violation_text};
+ghost use Rattle.rf_run.specs.Verdict.{IsNamed, IsPrintable, sign_of, verdict_text, violation_text};
 
 use crate::end::{Reply, Sign};
 use rf_graph::{Graph, Verdict, Violation, push_object, push_reference, push_symbol};

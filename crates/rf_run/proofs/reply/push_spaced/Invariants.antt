@@ -1,5 +1,5 @@
 use Rattle.std.proofs.Common.{◌≡◌, ◌++◌, take}
-use Rattle.rf_run.specs.Verdict.{spaced}
+use Rattle.rf_tree.specs.Document.{spaced}
 use Rattle.rf_run.proofs.reply.push_spaced.Given as goal
 
 abbrev pub invariant-loop-number : goal.invariant-loop-number

@@ -1,0 +1,45 @@
+//! The commands that are built.
+
+ghost use Rattle.std.specs.Prelude.{◌≡◌, None, Some, IfSome};
+ghost use Rattle.rf_run.specs.Commands.{IsBuilt, problem_file};
+ghost use Rattle.rf_run.specs.Jobs.{command_of};
+
+use crate::check::CheckJob;
+use crate::evaluate::EvaluateJob;
+use crate::verify::VerifyJob;
+use rf_words::Command;
+
+/// A command that is built.
+#[derive(Drop)]
+pub enum BuiltJob {
+    Check(CheckJob),
+    Evaluate(EvaluateJob),
+    Verify(VerifyJob),
+}
+
+impl BuiltJob {
+    /// The file of the problem.
+    pub fn problem_file(&self) -> &str
+        ensures { problem_file (command_of self.now) ≡ Some result.now }
+    {
+        match self {
+            BuiltJob::Check(job) => job.file.as_str(),
+            BuiltJob::Evaluate(job) => job.file.as_str(),
+            BuiltJob::Verify(job) => job.file.as_str(),
+        }
+    }
+}
+
+/// The job of a command, where it is built.
+pub fn job_of(command: Command) -> Option<BuiltJob>
+    ensures some { IfSome result (λ job. command ≡ command_of job) }
+    ensures built { IfSome result (λ job. IsBuilt (command_of job)) }
+    ensures none { result ≡ None → IsBuilt command → ⊥ }
+{
+    match command {
+        Command::Check { file, graph } => Some(BuiltJob::Check(CheckJob { file, graph })),
+        Command::Evaluate { file } => Some(BuiltJob::Evaluate(EvaluateJob { file })),
+        Command::Verify { file, tree } => Some(BuiltJob::Verify(VerifyJob { file, tree })),
+        _ => None,
+    }
+}
