@@ -14,4 +14,6 @@ mod store;
 #[cfg(test)]
 mod sums;
 #[cfg(test)]
+mod trees;
+#[cfg(test)]
 mod words;
