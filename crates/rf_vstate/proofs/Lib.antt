@@ -1,0 +1,13 @@
+pub mod Bits
+pub mod Entries
+pub mod KeyKinds
+pub mod Reading
+pub mod RowLemmas
+pub mod SoundLemmas
+pub mod CopyLemmas
+pub mod FreshLemmas
+pub mod FitLemmas
+pub mod TableLemmas
+pub mod VersionLemmas
+pub mod MergeLemmas
+pub mod RootLemmas

@@ -1,0 +1,13 @@
+//! Tests of states in maps with versions beside states that are copied.
+#![tactic(auto)]
+
+#[cfg(test)]
+mod both;
+#[cfg(test)]
+mod edits;
+#[cfg(test)]
+mod random;
+#[cfg(test)]
+mod same;
+#[cfg(test)]
+mod scripts;
