@@ -1,0 +1,6 @@
+pub mod InstanceLemmas
+pub mod FirstLemmas
+pub mod TouchLemmas
+pub mod RoundLemmas
+pub mod FarLemmas
+pub mod AfterLemmas

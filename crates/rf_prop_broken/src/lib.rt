@@ -1,0 +1,13 @@
+//! The propagator of predicates: the least of their rules that fires.
+#![tactic(auto)]
+
+mod dependence;
+mod instances;
+mod kinds;
+mod pending;
+mod propagate;
+mod touching;
+
+pub use pending::Pending;
+pub use propagate::{least, next};
+pub use touching::touch;

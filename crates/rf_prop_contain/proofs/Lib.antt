@@ -1,0 +1,6 @@
+pub mod FirstLemmas
+pub mod ChangeLemmas
+pub mod LeftLemmas
+pub mod StillLemmas
+pub mod CoverLemmas
+pub mod AfterLemmas

@@ -1,0 +1,78 @@
+//! The least rule of containment that fires.
+
+ghost use Rattle.std.specs.Prelude.{◌≡◌, IfOk};
+ghost use Rattle.rf_pending.specs.Families.{IsLeastOf, is_of_containment};
+ghost use Rattle.rf_prop_contain.specs.Kinds.{first_of_all};
+ghost use Rattle.rf_prop_contain.specs.Pending.{Covers};
+
+use crate::Pending;
+use crate::kinds::{EdgeKind, least_at_edges, least_at_objects};
+use rf_rules::Rule;
+use rf_state::{Facts, View};
+use std::alloc::{AllocError, Global};
+
+// The first rule that fires, one kind after the other.
+fn first_of_all<F: Facts>(
+    alloc: Global,
+    view: &F,
+    pending: &mut Pending,
+) -> Result<Option<Rule>, AllocError>
+    requires { Covers (F.problem view.now) (F.state view.now) pending.old }
+    ensures least { IfOk result (λ rule. rule ≡ first_of_all (F.problem view.now) (F.state view.now)) }
+    ensures covers { Covers (F.problem view.now) (F.state view.now) pending.new }
+{
+    if let Some(rule) = least_at_edges(
+        alloc,
+        view,
+        EdgeKind::OneContainer,
+        &mut pending.one_container,
+    )? {
+        return Ok(Some(rule));
+    }
+    if let Some(rule) = least_at_edges(alloc, view, EdgeKind::Alone, &mut pending.alone)? {
+        return Ok(Some(rule));
+    }
+    if let Some(rule) = least_at_edges(
+        alloc,
+        view,
+        EdgeKind::MustContain,
+        &mut pending.must_contain,
+    )? {
+        return Ok(Some(rule));
+    }
+    if let Some(rule) = least_at_edges(
+        alloc,
+        view,
+        EdgeKind::ContainCount,
+        &mut pending.contain_count,
+    )? {
+        return Ok(Some(rule));
+    }
+    if let Some(rule) = least_at_objects(alloc, view, &mut pending.no_container)? {
+        return Ok(Some(rule));
+    }
+    least_at_edges(alloc, view, EdgeKind::Acyclic, &mut pending.acyclic)
+}
+
+/// The least rule of containment that fires, and none exactly where none does. The rules that were looked at in
+/// vain are no longer pending. Where memory runs out, the answer is an `AllocError`, and what is pending covers
+/// the state as before.
+pub fn least<F: Facts>(
+    alloc: Global,
+    view: &F,
+    pending: &mut Pending,
+) -> Result<Option<Rule>, AllocError>
+    requires { Covers (F.problem view.now) (F.state view.now) pending.old }
+    ensures least { IfOk result (IsLeastOf is_of_containment (F.problem view.now) (F.state view.now)) }
+    ensures covers { Covers (F.problem view.now) (F.state view.now) pending.new }
+{
+    first_of_all(alloc, view, pending)
+}
+
+/// The same for a state of which nothing is known to be done.
+pub fn next<V: View>(alloc: Global, view: &V) -> Result<Option<Rule>, AllocError>
+    ensures { IfOk result (IsLeastOf is_of_containment (V.problem view.now) (V.state view.now)) }
+{
+    let mut pending = Pending::all(alloc, view)?;
+    least(alloc, view, &mut pending)
+}

@@ -1,0 +1,4 @@
+-- what public contracts cite
+pub mod Pending
+-- what only the contracts of private functions cite
+pub mod Kinds
