@@ -1,0 +1,4 @@
+pub mod SetLemmas
+pub mod RankLemmas
+pub mod FamilyLemmas
+pub mod StepLemmas

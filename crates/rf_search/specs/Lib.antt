@@ -1,0 +1,8 @@
+-- what public contracts cite, in the order of reading
+pub mod Least
+pub mod Settled
+pub mod Rank
+pub mod Laws
+pub mod Pending
+-- what only the contracts of private functions cite
+pub mod Changed

@@ -1,0 +1,5 @@
+//! Tests of rules that are applied until none fires.
+#![tactic(auto)]
+
+#[cfg(test)]
+mod settling;
