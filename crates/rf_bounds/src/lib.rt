@@ -37,3 +37,6 @@ pub const MOST_NAME_BYTES: usize = 255;
 
 /// The greatest number that a text may have.
 pub const GREATEST_NUMBER: u32 = 1_000_000;
+
+/// The most decisions that a search may be allowed as its budget.
+pub const MOST_DECISIONS: u64 = 1_000_000;

@@ -9,3 +9,5 @@ pub mod Repeats
 pub mod Walks
 pub mod Cycles
 pub mod TotalLemmas
+pub mod Passing
+pub mod Joined

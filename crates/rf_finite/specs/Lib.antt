@@ -7,3 +7,4 @@ pub mod Sums
 pub mod Firsts
 pub mod Tuples
 pub mod Totals
+pub mod Passing

@@ -1,6 +1,7 @@
 //! What the computing definitions mean, each law as the contract of a function that does nothing.
 
 ghost use Rattle.rf_finite.specs.Firsts.{FirstIsNoneWhereNonePasses, FirstIsUnique, FirstOfEitherIsEarlier};
+ghost use Rattle.rf_finite.specs.Passing.{PassingIsAll, PassingIsInOrder};
 ghost use Rattle.rf_finite.specs.Range.{SomeBelowIsSome, AllBelowIsEach, CountBelowIsLength, FirstBelowIsLeast, FirstBelowIsNone};
 ghost use Rattle.rf_finite.specs.Sums.{SumIsMonotone, SumIsPointwise, SumIsSplit, SumIsTermAndOthers, SumIsWithinEnds};
 ghost use Rattle.rf_finite.specs.Sums.{EndsAreEndAndOthers, EndsAreMonotone, EndsArePointwise, EndsAreSplit, EndsAreUnboundedWhereOneIs, EndsSumAsNumbers};
@@ -70,4 +71,10 @@ pub fn walk_law()
 /// There is no cycle exactly where vertices can be ranked so that each edge leads to a lower rank.
 pub fn no_cycle_law()
     ensures { NoCycleIsRank }
+{}
+
+/// The numbers that pass stand in their list in order, each once.
+pub fn passing_law()
+    ensures all { PassingIsAll }
+    ensures in_order { PassingIsInOrder }
 {}

@@ -13,7 +13,7 @@ mod upper_ends;
 
 pub use laws::{
     all_below_law, count_below_law, ends_below_law, first_below_law, first_law, first_tuple_law,
-    no_cycle_law, some_below_law, sum_below_law, walk_law,
+    no_cycle_law, passing_law, some_below_law, sum_below_law, walk_law,
 };
 pub use order::earlier;
 pub use parts::{Parts, sum_of_ends, sum_of_parts};

@@ -31,7 +31,7 @@ use Rattle.rf_rules.specs.Words.{hi, lo}
 use Rattle.rf_placement.specs.Laws.{ValuesAreKept}
 use Rattle.rf_placement.specs.Placement.{Concretises, IsNodeOf, Placing, nodes_at}
 use Rattle.rf_placement.proofs.AtObjects.{candidate_passes, class_passes, fact_kept, few_same, lowers, may_have_node, object_there, uppers}
-use Rattle.rf_placement.proofs.LiteralFollowing.{literal_follows}
+use Rattle.rf_problem.proofs.Following.{literal_follows}
 use Rattle.rf_placement.proofs.Satisfied.{node_class_below}
 
 -- a truth is kept by what holds where it has to and can where it holds

@@ -117,7 +117,7 @@ elements_follow p a b Rel f test args g h says says' all known k t =
     })
     t
 
-abbrev CallsFollow : Problem → Calls → Reading → Reading → Reading → Reading → (ℕ → ℕ → Type 0) → Type 0
+abbrev pub CallsFollow : Problem → Calls → Reading → Reading → Reading → Reading → (ℕ → ℕ → Type 0) → Type 0
 CallsFollow p calls a n b m Rel = (q : ℕ) (t u : List ℕ) → AreRelated (predicate_at p.predicates q).arity Rel t u → calls a n q t ≡ true → calls b m q u ≡ true
 
 two_related : (Rel : ℕ → ℕ → Type 0) (x y u v : ℕ) → Rel x u → Rel y v → (i : ℕ) → i < 2 → Rel (slice_index (x ∷ y ∷ []) i) (slice_index (u ∷ v ∷ []) i)
@@ -189,7 +189,7 @@ module _ (p : Problem) (calls : Calls) (a n b m : Reading) (Rel : ℕ → ℕ �
       (λ k l rel e. both (slice_index k 0) (slice_index k 1) (slice_index l 0) (slice_index l 1) (rel.each 0 (omega arith)) (rel.each 1 (omega arith)) e)
       h
 
-  literal_follows : (i : ℕ) (t u : Assignment) (l : Literal) → literal_fits p variables i l ≡ true → ((v : ℕ) → IsFree variables v → Rel (t v) (u v))
+  pub literal_follows : (i : ℕ) (t u : Assignment) (l : Literal) → literal_fits p variables i l ≡ true → ((v : ℕ) → IsFree variables v → Rel (t v) (u v))
       → literal_true calls a n variables i t l ≡ true → literal_true calls b m variables i u l ≡ true
   literal_follows i t u (Call false closure symbol args) fit r h =
       call_follows p calls a n b m Rel f cf variables i false closure symbol args t u (FitsCall-from_literal_fits p variables i false closure symbol args fit) (λ v s. r v (may_stand-free variables i v s)) h

@@ -4,6 +4,8 @@ pub mod Lines
 pub mod Pending
 pub mod Laws
 pub mod Verdicts
+pub mod Saturated
+pub mod Outcomes
 pub mod Document
 pub mod Reading
 pub mod Readers

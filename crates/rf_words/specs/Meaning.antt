@@ -1,7 +1,8 @@
 -- Which words are which command.
 use Rattle.std.specs.Prelude.{◌≡◌, ℕ, ◌≤◌, ◌-◌, ◌^◌, false, List, [], ◌∷◌, Some, codes, decimal}
+use Rattle.rf_bounds.specs.declared.TheConstants.{MOST_DECISIONS}
 use Rattle.rf_words.specs.Arguments.{Text, said, values_of}
-use Rattle.rf_words.specs.declared.request.TheConstants.{DEFAULT_BUDGET, DEFAULT_SEED, MOST_BUDGET, MOST_GROWTH}
+use Rattle.rf_words.specs.declared.request.TheConstants.{DEFAULT_BUDGET, DEFAULT_SEED, MOST_GROWTH}
 use Rattle.rf_words.specs.declared.request.Command.{Command}
 use Rattle.rf_words.specs.declared.request.Command.TheVariants.{Generate, Check, Verify, Evaluate, Session, Grow}
 
@@ -41,7 +42,7 @@ HasNumber _ least most default n = ⊥
 abbrev pub HasNumbers : Command → List (Text × Text) → Type 0
 HasNumbers (Generate file seed budget json) values =
     HasNumber (values_of (codes "seed") values) 0 (2 ^ 64 - 1) DEFAULT_SEED seed
-    × HasNumber (values_of (codes "budget") values) 1 MOST_BUDGET DEFAULT_BUDGET budget × (json ≡ false)
+    × HasNumber (values_of (codes "budget") values) 1 MOST_DECISIONS DEFAULT_BUDGET budget × (json ≡ false)
 HasNumbers (Grow n) values = (1 ≤ n) × (n ≤ MOST_GROWTH)
 HasNumbers _ values = Unit {0}
 

@@ -3,8 +3,9 @@ ghost use Rattle.rf_words.specs.Meaning.{IsCommand, SaysPlain};
 
 use crate::options::checked;
 use crate::parse::{number, one_plain, parse, two_plain};
-use crate::request::{DEFAULT_BUDGET, DEFAULT_SEED, MOST_BUDGET, MOST_GROWTH};
+use crate::request::{DEFAULT_BUDGET, DEFAULT_SEED, MOST_GROWTH};
 use crate::{Command, WordsError};
+use rf_bounds::MOST_DECISIONS;
 use rf_text::{Text, read_number};
 use std::alloc::Global;
 
@@ -28,7 +29,7 @@ fn generate(alloc: Global, arguments: &[Text]) -> Result<Command, WordsError>
     let Some(seed) = number(&matches, "seed", 0, u64::MAX, DEFAULT_SEED) else {
         return Err(WordsError::Usage);
     };
-    let Some(budget) = number(&matches, "budget", 1, MOST_BUDGET, DEFAULT_BUDGET) else {
+    let Some(budget) = number(&matches, "budget", 1, MOST_DECISIONS, DEFAULT_BUDGET) else {
         return Err(WordsError::Usage);
     };
     Ok(Command::Generate {

@@ -6,9 +6,6 @@ pub const DEFAULT_SEED: u64 = 0;
 /// How many decisions a search may take where no option says so.
 pub const DEFAULT_BUDGET: u64 = 10_000;
 
-/// The greatest budget.
-pub const MOST_BUDGET: u64 = 1_000_000;
-
 /// The greatest size of a grown problem.
 pub const MOST_GROWTH: u64 = 200;
 
