@@ -2,6 +2,8 @@
 pub mod Least
 pub mod Settled
 pub mod Rank
+pub mod Course
+pub mod Outcome
 pub mod Laws
 pub mod Pending
 -- what only the contracts of private functions cite

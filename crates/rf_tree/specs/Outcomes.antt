@@ -10,5 +10,5 @@ use Rattle.rf_tree.specs.declared.outcome.Outcome.TheVariants.{Found, Refuted, U
 -- decisions as the budget
 abbrev pub IsRightOutcome : Problem → ℕ → Outcome → Type 0
 IsRightOutcome p budget (Found g) = Sat p g
-IsRightOutcome p budget (Refuted lines) = Valid p lines.items
-IsRightOutcome p budget (Unfinished lines) = Open p lines.items budget
+IsRightOutcome p budget (Refuted lines) = Valid p lines
+IsRightOutcome p budget (Unfinished lines) = Open p lines budget

@@ -1,0 +1,4 @@
+-- what public contracts cite, in the order of reading
+pub mod Choice
+pub mod Words
+pub mod Laws

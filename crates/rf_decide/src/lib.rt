@@ -1,0 +1,8 @@
+//! Which decision a search takes: by a word of its seed, one of the first group of which some is allowed.
+#![tactic(auto)]
+
+mod choices;
+mod words;
+
+pub use choices::Choices;
+pub use words::Words;

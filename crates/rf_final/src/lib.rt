@@ -1,0 +1,2 @@
+//! Final states and their graphs: where no rule fires and no decision is allowed, the graph of the state satisfies.
+#![tactic(auto)]
