@@ -11,3 +11,5 @@ mod random;
 mod same;
 #[cfg(test)]
 mod scripts;
+#[cfg(test)]
+mod worked;
