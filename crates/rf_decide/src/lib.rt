@@ -6,3 +6,6 @@ mod words;
 
 pub use choices::Choices;
 pub use words::Words;
+
+mod choosing;
+pub use choosing::{choices, choose};

@@ -63,7 +63,7 @@ of_second c p second (BadLine sort line) refuses = refl
 pub within_of_answer :
     (c : Command) (p : Problem) (second : List ℕ) (a : Reply) → IsWhole c → Answers c p second a → IsWithin (second_file c) second
 within_of_answer (Check file graph) p second a whole answers = answers.drawn.short
-within_of_answer (Generate file seed budget json) p second a whole answers = absurd answers
+within_of_answer (Generate file seed budget json) p second a whole answers = tt
 within_of_answer (Verify file tree) p second a whole answers = absurd whole
 within_of_answer (Evaluate file) p second a whole answers = tt
 within_of_answer (Session file script) p second a whole answers = absurd answers

@@ -10,3 +10,5 @@ pub mod Left
 pub mod Trees
 pub mod Verified
 pub mod TreeFacts
+pub mod Generated
+pub mod Budgets

@@ -1,25 +1,37 @@
 -- What each command answers, and what its answers promise to the user.
 use Rattle.std.specs.Prelude.{◌≡◌, ◌≤◌, ◌⊎◌, ℕ, List, length, take}
 use Rattle.rf_problem.specs.declared.problem.Problem.{Problem}
-use Rattle.rf_check.specs.Documents.{IsTreeVerdict, MeetsRejected}
+use Rattle.rf_check.specs.Documents.{IsRefutation, IsTreeVerdict, MeetsRejected}
 use Rattle.rf_check.specs.declared.verdict.TreeVerdict.{TreeVerdict}
+use Rattle.rf_graph.specs.Document.{IsDocument}
 use Rattle.rf_graph.specs.Violations.{IsVerdict, Sat}
 use Rattle.rf_graph.specs.declared.graph.Graph.{Graph}
 use Rattle.rf_graph.specs.declared.verdict.Verdict.{Verdict}
+use Rattle.rf_search.specs.Outcome.{IsOutcome}
 use Rattle.rf_state.specs.State.{IsRoot, State}
 use Rattle.rf_tree.specs.Document.{IsTreeDocument}
 use Rattle.rf_tree.specs.Lines.{CanStand, Open, Valid}
+use Rattle.rf_tree.specs.Pending.{decisions_in}
 use Rattle.rf_tree.specs.declared.line.Line.{Line}
+use Rattle.rf_tree.specs.declared.outcome.Outcome.{Outcome}
 use Rattle.rf_valuation.specs.Valuation.{IsValuation}
 use Rattle.rf_words.specs.declared.request.Command.{Command}
-use Rattle.rf_words.specs.declared.request.Command.TheVariants.{Check, Evaluate, Verify}
+use Rattle.rf_words.specs.declared.request.Command.TheVariants.{Check, Evaluate, Generate, Verify}
 use Rattle.rf_run.specs.declared.end.Reply.{Reply}
 use Rattle.rf_run.specs.declared.end.Sign.{Sign}
 use Rattle.rf_run.specs.declared.end.Sign.TheVariants.{Yes, No, Unfinished}
 use Rattle.rf_run.specs.Accepted.{IsDrawn}
 use Rattle.rf_run.specs.declared.refusal.TheConstants.{TREE_LIMIT}
+use Rattle.rf_run.specs.Outcome.{outcome_text, sign_of_outcome}
 use Rattle.rf_run.specs.TreeVerdict.{sign_of_tree, tree_verdict_text}
 use Rattle.rf_run.specs.Verdict.{sign_of, verdict_text}
+
+-- `generate` answers what a search by this seed ends with, with at most so many decisions
+pub record AnswersGenerate (p : Problem) (seed budget : ℕ) (reply : Reply) : Type 0 where
+  pub outcome : Outcome
+  pub ends : IsOutcome p seed budget outcome
+  pub text : reply.text ≡ outcome_text p outcome
+  pub sign : reply.sign ≡ sign_of_outcome outcome
 
 -- `check` answers the verdict on the graph
 pub record AnswersCheck (p : Problem) (second : List ℕ) (reply : Reply) : Type 0 where
@@ -47,6 +59,7 @@ pub record AnswersVerify (p : Problem) (second : List ℕ) (reply : Reply) : Typ
 
 -- the answer of a command on its problem and the bytes of its second file
 abbrev pub Answers : Command → Problem → List ℕ → Reply → Type 0
+Answers (Generate file seed budget json) p second reply = AnswersGenerate p seed budget reply
 Answers (Check file graph) p second reply = AnswersCheck p second reply
 Answers (Evaluate file) p second reply = AnswersEvaluate p reply
 Answers (Verify file tree) p second reply = AnswersVerify p second reply
@@ -71,8 +84,35 @@ pub record IsRightRefutation (p : Problem) (second : List ℕ) (reply : Reply) :
   pub lines : (lines : List Line) → IsTreeDocument lines second → IsRightTree p lines reply.sign
   pub no_graph : reply.sign ≡ Yes → (g : Graph) → Sat p g → ⊥
 
+-- the text is the document of a graph that satisfies the problem
+pub record IsRightGraph (p : Problem) (text : List ℕ) : Type 0 where
+  pub graph : Graph
+  pub document : IsDocument p graph text
+  pub satisfies : Sat p graph
+
+-- the text is the document of valid lines, a tree that `verify` accepts; and no graph satisfies the problem
+pub record IsRightRefutedText (p : Problem) (text : List ℕ) : Type 0 where
+  pub lines : List Line
+  pub document : IsTreeDocument lines text
+  pub valid : Valid p lines
+  pub accepted : IsRefutation p text (decisions_in lines)
+  pub no_graph : (g : Graph) → Sat p g → ⊥
+
+-- the text is the document of open lines with exactly as many decisions as the budget, each of which is allowed where it stands
+pub record IsRightUnfinishedText (p : Problem) (budget : ℕ) (text : List ℕ) : Type 0 where
+  pub lines : List Line
+  pub document : IsTreeDocument lines text
+  pub unfinished : Open p lines budget
+
+-- what `generate` promises: a yes is a graph that satisfies, a no a tree that refutes, an unfinished one the tree of a spent budget
+abbrev pub IsRightGeneration : Problem → ℕ → List ℕ → Sign → Type 0
+IsRightGeneration p budget text Yes = IsRightGraph p text
+IsRightGeneration p budget text No = IsRightRefutedText p text
+IsRightGeneration p budget text Unfinished = IsRightUnfinishedText p budget text
+
 -- what an answer promises, in the user's words
 abbrev pub IsRight : Command → Problem → List ℕ → Reply → Type 0
+IsRight (Generate file seed budget json) p second reply = IsRightGeneration p budget reply.text reply.sign
 IsRight (Check file graph) p second reply = (g : Graph) → IsDrawn second p g → IsRightVerdict p g reply.sign
 IsRight (Evaluate file) p second reply = (s : State) → IsRoot p s → IsValuation p s reply.text
 IsRight (Verify file tree) p second reply = IsRightRefutation p second reply

@@ -1,6 +1,7 @@
 -- Which files a command reads, and which commands are built.
-use Rattle.std.specs.Prelude.{ℕ, List, [], ◌∷◌, ◌++◌, Option, None, Some}
+use Rattle.std.specs.Prelude.{◌≡◌, ◌≤◌, ℕ, false, List, [], ◌∷◌, ◌++◌, Option, None, Some}
 use Rattle.std.specs.Option.{option_map}
+use Rattle.rf_bounds.specs.declared.TheConstants.{MOST_DECISIONS}
 use Rattle.rf_words.specs.declared.request.Command.{Command}
 use Rattle.rf_words.specs.declared.request.Command.TheVariants.{Generate, Check, Verify, Evaluate, Session, Grow}
 use Rattle.rf_run.specs.declared.refusal.File.{File as Sort}
@@ -9,10 +10,16 @@ use Rattle.rf_run.specs.declared.refusal.TheConstants.{GRAPH_LIMIT, SCRIPT_LIMIT
 
 -- the commands that are built; the words of the others are answered as usage
 abbrev pub IsBuilt : Command → Type 0
+IsBuilt (Generate file seed budget json) = json ≡ false
 IsBuilt (Check file graph) = Unit {0}
 IsBuilt (Evaluate file) = Unit {0}
 IsBuilt (Verify file tree) = Unit {0}
 IsBuilt _ = ⊥
+
+-- a budget is at least 1, and within its limit
+abbrev pub HasBudget : Command → Type 0
+HasBudget (Generate file seed budget json) = (1 ≤ budget) × (budget ≤ MOST_DECISIONS)
+HasBudget _ = Unit {0}
 
 -- the file of the problem
 abbrev pub problem_file : Command → Option (List ℕ)

@@ -9,4 +9,5 @@ pub mod Refuses
 pub mod Stages
 pub mod Verdict
 pub mod TreeVerdict
+pub mod Outcome
 pub mod Jobs

@@ -143,6 +143,7 @@ fn after_problem<F: Folder>(
     match job {
         BuiltJob::Check(job) => over_second(alloc, folder, job, problem),
         BuiltJob::Evaluate(job) => over_second(alloc, folder, job, problem),
+        BuiltJob::Generate(job) => over_second(alloc, folder, job, problem),
         BuiltJob::Verify(job) => over_tree(alloc, folder, job, problem),
     }
 }

@@ -9,6 +9,7 @@ mod end;
 mod ends;
 mod evaluate;
 mod files;
+mod generate;
 mod job;
 mod leave;
 mod lines;

@@ -9,3 +9,6 @@ mod settling;
 pub use laws::{families_law, narrowing_law};
 pub use pending::{Pending, least, touch};
 pub use settling::{settle, settle_pending};
+
+mod searching;
+pub use searching::{generate, search};

@@ -3,6 +3,7 @@ use Rattle.rf_words.specs.Meaning.{IsCommand}
 use Rattle.rf_run.specs.Commands.{IsBuilt}
 use Rattle.rf_run.specs.Ends.{IsUsage}
 use Rattle.rf_run.specs.Jobs.{command_of}
+use Rattle.rf_run.proofs.Budgets.{has_budget}
 use Rattle.rf_run.proofs.OneCommand.{IsOnly, only_complete, only_ended, only_right, usage_ended}
 use Rattle.rf_run.proofs.ends.end_of.Goals as goal
 
@@ -44,3 +45,6 @@ pub returns-in-Err-Usage-clause-ended : goal.returns-in-Err-Usage-clause-ended
 returns-in-Err-Usage-clause-ended g c =
     let never : IsUsage c.args.words.now = λ d built is. c.in-Err-Usage.ensures.usage c.in-Err-Usage.field-0-is d is in
     usage_ended c.args.words.now (g.F.Folder.state c.args.folder.now) never
+
+pub job_of-requires : goal.job_of-requires
+job_of-requires g c = has_budget c.args.words.now c.in-Ok.command c.in-Ok.ensures.ok
