@@ -1,39 +1,44 @@
 -- Which decision is taken in a state, and which of its sides leads.
-use Rattle.std.specs.Prelude.{ℕ, Bool, true, false, ◌==◌, ◌/◌, ◌%◌, if◌then◌else◌, nat_le, Option, None, Some, List, length, map, slice_index_or}
+use Rattle.std.specs.Prelude.{ℕ, Bool, true, false, ◌==◌, ◌/◌, ◌%◌, if◌then◌else◌, nat_le, Option, None, Some, List, [], ◌∷◌, length, slice_index_or}
 use Rattle.std.specs.Option.{is_none}
-use Rattle.rf_finite.specs.Passing.{joined, passing}
+use Rattle.rf_finite.specs.Passing.{joined}
 use Rattle.rf_problem.specs.declared.problem.Problem.{Problem}
 use Rattle.rf_state.specs.State.{State}
 use Rattle.rf_rules.specs.Decisions.{allowed}
 use Rattle.rf_rules.specs.Words.{hi, lo}
 use Rattle.rf_rules.specs.declared.decision.Decision.{Decision}
 use Rattle.rf_rules.specs.declared.decision.Decision.TheVariants.{Fresh, Kind, Ref}
-use Rattle.rf_decide.specs.declared.choices.Choices.{Choices}
-use Rattle.rf_decide.specs.declared.choices.Choices.TheVariants.{Group, Nothing}
+use Rattle.rf_decide.specs.declared.first_group.Choices.{Choices}
+use Rattle.rf_decide.specs.declared.first_group.Choices.TheVariants.{Group, Nothing}
+
+-- a decision, where it is allowed
+abbrev pub if_allowed : Problem → State → Decision → List Decision
+if_allowed p s d = if allowed p s d then d ∷ [] else []
 
 -- the allowed decisions on fresh objects, by object
 abbrev pub allowed_fresh : Problem → State → List Decision
-allowed_fresh p s = map Fresh (passing (length s.objects) (λ o. allowed p s (Fresh o)))
+allowed_fresh p s = joined (length s.objects) (λ o. if_allowed p s (Fresh o))
 
 -- those on the class of an object, by class, and on the classes of all objects
 abbrev pub kinds_of : Problem → State → ℕ → List Decision
-kinds_of p s o = map (Kind o) (passing (length p.classes) (λ c. allowed p s (Kind o c)))
+kinds_of p s o = joined (length p.classes) (λ c. if_allowed p s (Kind o c))
 
 abbrev pub allowed_kinds : Problem → State → List Decision
 allowed_kinds p s = joined (length s.objects) (kinds_of p s)
 
--- those on the edges of a reference from an object, by the object to which they lead, and on all edges
+-- those on the edges of a reference from an object, by the object to which they lead; of a reference; and of all references
 abbrev pub edges_from : Problem → State → ℕ → ℕ → List Decision
-edges_from p s r a = map (Ref r a) (passing (length s.objects) (λ b. allowed p s (Ref r a b)))
+edges_from p s r a = joined (length s.objects) (λ b. if_allowed p s (Ref r a b))
+
+abbrev pub edges_of : Problem → State → ℕ → List Decision
+edges_of p s r = joined (length s.objects) (edges_from p s r)
 
 abbrev pub allowed_edges : Problem → State → List Decision
-allowed_edges p s = joined (length p.references) (λ r. joined (length s.objects) (edges_from p s r))
+allowed_edges p s = joined (length p.references) (edges_of p s)
 
 -- a group of decisions, by its number
 abbrev pub group : Problem → State → ℕ → List Decision
-group p s 0 = allowed_fresh p s
-group p s 1 = allowed_kinds p s
-group p s _ = allowed_edges p s
+group p s number = if number == 0 then allowed_fresh p s else (if number == 1 then allowed_kinds p s else allowed_edges p s)
 
 -- the number of the first group that has a decision, or of the last
 abbrev pub group_number : Problem → State → ℕ

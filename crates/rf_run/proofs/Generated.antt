@@ -32,11 +32,11 @@ use Rattle.rf_run.specs.declared.refusal.Refusal.TheVariants.{TooLong, Problem a
 
 -- the lines of a tree that fits are each of their kind
 kinds_fit : (p : Problem) (s : State) (t : Tree) → FitsTree p s t → All FitsKind (lines_of t)
-kinds_fit p s hole fits = All-nil
-kinds_fit p s (closing rule) fits = All-cons (Close rule) [] fits.0 All-nil
-kinds_fit p s (effect rule t) fits = All-cons (Step rule) (lines_of t) fits.0 (kinds_fit p (after p s rule) t fits.2)
+kinds_fit p s hole fits = (All-nil FitsKind)
+kinds_fit p s (closing rule) fits = All-cons FitsKind (Close rule) [] fits.0 (All-nil FitsKind)
+kinds_fit p s (effect rule t) fits = All-cons FitsKind (Step rule) (lines_of t) fits.0 (kinds_fit p (after p s rule) t fits.2)
 kinds_fit p s (choice d first t u) fits =
-    All-cons (Decide d first) (lines_of t ++ lines_of u) tt
+    All-cons FitsKind (Decide d first) (lines_of t ++ lines_of u) tt
     (All-append FitsKind (lines_of t) (lines_of u) (kinds_fit p _ t fits.1) (kinds_fit p _ u fits.2))
 
 -- what is right can be printed
