@@ -18,7 +18,7 @@ use Rattle.rf_decide.proofs.Joining.{joined_none, joined_some}
 pub members_allowed : MembersAreAllowed
 members_allowed p s d there = All-contains (IsAllowed p s) (members p s) d (group_allowed p s (group_number p s)) there
 
-decision_in : Option (Decision × Bool) → Decision
+abbrev decision_in : Option (Decision × Bool) → Decision
 decision_in None = no_decision
 decision_in (Some x) = x.0
 
