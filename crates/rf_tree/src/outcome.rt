@@ -25,6 +25,7 @@ pub enum Outcome {
 pub trait Solver {
     ghost use Rattle.std.specs.Prelude.{ℕ};
     ghost use Rattle.rf_problem.specs.declared.problem.Problem.{Problem};
+    ghost use Rattle.rf_tree.specs.declared.outcome.Outcome.{Outcome};
 
     /// What a search ends with, by the problem, the seed and the budget alone, whoever of this type searches.
     ghost ends: { Problem → ℕ → ℕ → Outcome → Type 0 };
