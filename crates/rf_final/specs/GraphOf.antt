@@ -35,9 +35,15 @@ is_edge p s r x y = is_same_truth (fact p s r (single_at s x) (single_at s y)) T
 abbrev pub edge_if : Bool → ℕ → ℕ → ℕ → List Edge
 edge_if there r x y = if there then record { reference = r; from = x; to = y } ∷ [] else []
 
--- the edges among so many nodes, by reference and nodes
+-- the edges among so many nodes: those of a reference that lead from node x, those of a reference, and all, in order
+abbrev pub row_edges : Problem → State → ℕ → ℕ → ℕ → List Edge
+row_edges p s r x n = joined n (λ y. edge_if (is_edge p s r x y) r x y)
+
+abbrev pub reference_edges : Problem → State → ℕ → ℕ → List Edge
+reference_edges p s r n = joined n (λ x. row_edges p s r x n)
+
 abbrev pub edges_of : Problem → State → ℕ → List Edge
-edges_of p s n = joined (length p.references) (λ r. joined n (λ x. joined n (λ y. edge_if (is_edge p s r x y) r x y)))
+edges_of p s n = joined (length p.references) (λ r. reference_edges p s r n)
 
 abbrev pub graph_of : Problem → State → Graph
 graph_of p s = record { nodes = map (node_of p s) (singles s); edges = edges_of p s (length (singles s)) }
