@@ -1,8 +1,7 @@
 -- The graph of a final state: a node for each object that is one node, and the edges that are known to be there.
-use Rattle.std.specs.Prelude.{ℕ, Bool, if◌then◌else◌, List, [], ◌∷◌, length, map, slice_index}
+use Rattle.std.specs.Prelude.{ℕ, Bool, if◌then◌else◌, List, [], ◌∷◌, length, map, slice_index, unwrap_or}
 use Rattle.std.specs.Bool.{then_some}
 use Rattle.std.specs.FinSet.{contains}
-use Rattle.std.specs.Option.{option_unwrap_or}
 use Rattle.rf_finite.specs.Passing.{joined, passing}
 use Rattle.rf_finite.specs.Range.{first_below}
 use Rattle.rf_values.specs.declared.truth.Truth.TheVariants.{True}
@@ -23,7 +22,7 @@ single_at s x = slice_index (singles s) x
 
 -- the first candidate of an object, which in a final state is the only one
 abbrev pub class_in : Problem → State → ℕ → ℕ
-class_in p s o = option_unwrap_or (first_below (length p.classes) (λ c. then_some (contains (object_of s o).candidates c) c)) 0
+class_in p s o = unwrap_or (first_below (length p.classes) (λ c. then_some (contains (object_of s o).candidates c) c)) 0
 
 abbrev pub node_of : Problem → State → ℕ → Node
 node_of p s o = record { class = class_in p s o; origin = (object_of s o).origin }

@@ -80,44 +80,44 @@ fn node_of<F: Facts>(view: &F, o: u64) -> Node
 }
 
 // The nodes that some objects are.
-fn nodes<F: Facts>(alloc: Global, view: &F, singles: &[u64]) -> Result<Vec<Node>, AllocError>
-    requires { singles.now ≡ singles (F.state view.now) }
-    ensures { IfOk result (λ v. v.items ≡ map (node_of (F.problem view.now) (F.state view.now)) singles.now) }
+fn nodes<F: Facts>(alloc: Global, view: &F, objects: &[u64]) -> Result<Vec<Node>, AllocError>
+    requires { objects.now ≡ singles (F.state view.now) }
+    ensures { IfOk result (λ v. v.items ≡ map (node_of (F.problem view.now) (F.state view.now)) objects.now) }
 {
     let mut nodes = Vec::new(alloc);
-    for o in singles {
+    for o in objects {
         nodes.push(node_of(view, *o))?;
     }
     Ok(nodes)
 }
 
 // Whether an edge of a reference leads from node x to node y.
-fn is_edge<F: Facts>(view: &F, singles: &[u64], r: u32, x: usize, y: usize) -> bool
+fn is_edge<F: Facts>(view: &F, objects: &[u64], r: u32, x: usize, y: usize) -> bool
     requires reference { r < length (F.problem view.now).references }
-    requires singles { singles.now ≡ singles (F.state view.now) }
-    requires from { x < length singles.now }
-    requires to { y < length singles.now }
+    requires singles { objects.now ≡ singles (F.state view.now) }
+    requires from { x < length objects.now }
+    requires to { y < length objects.now }
     ensures { result ≡ is_edge (F.problem view.now) (F.state view.now) r x y }
 {
-    view.fact(r, singles[x], singles[y]) == Truth::True
+    view.fact(r, objects[x], objects[y]) == Truth::True
 }
 
 // Adds the edge, where there is one.
 fn push_edge<F: Facts>(
     view: &F,
-    singles: &[u64],
+    objects: &[u64],
     r: u32,
     x: usize,
     y: usize,
     edges: &mut Vec<Edge>,
 ) -> Result<(), AllocError>
     requires reference { r < length (F.problem view.now).references }
-    requires singles { singles.now ≡ singles (F.state view.now) }
-    requires from { x < length singles.now }
-    requires to { y < length singles.now }
+    requires singles { objects.now ≡ singles (F.state view.now) }
+    requires from { x < length objects.now }
+    requires to { y < length objects.now }
     ensures { OnOk result (edges.new.items ≡ edges.old.items ++ edge_if (is_edge (F.problem view.now) (F.state view.now) r x y) r x y) }
 {
-    if is_edge(view, singles, r, x, y) {
+    if is_edge(view, objects, r, x, y) {
         edges.push(Edge {
             reference: r,
             from: x as u64,
@@ -130,18 +130,18 @@ fn push_edge<F: Facts>(
 // Adds the edges of a reference that lead from a node.
 fn push_row<F: Facts>(
     view: &F,
-    singles: &[u64],
+    objects: &[u64],
     r: u32,
     x: usize,
     edges: &mut Vec<Edge>,
 ) -> Result<(), AllocError>
     requires reference { r < length (F.problem view.now).references }
-    requires singles { singles.now ≡ singles (F.state view.now) }
-    requires from { x < length singles.now }
-    ensures { OnOk result (edges.new.items ≡ edges.old.items ++ row_edges (F.problem view.now) (F.state view.now) r x (length singles.now)) }
+    requires singles { objects.now ≡ singles (F.state view.now) }
+    requires from { x < length objects.now }
+    ensures { OnOk result (edges.new.items ≡ edges.old.items ++ row_edges (F.problem view.now) (F.state view.now) r x (length objects.now)) }
 {
-    for y in 0..singles.len() {
-        push_edge(view, singles, r, x, y, edges)?;
+    for y in 0..objects.len() {
+        push_edge(view, objects, r, x, y, edges)?;
     }
     Ok(())
 }
@@ -149,28 +149,28 @@ fn push_row<F: Facts>(
 // Adds the edges of a reference.
 fn push_reference<F: Facts>(
     view: &F,
-    singles: &[u64],
+    objects: &[u64],
     r: u32,
     edges: &mut Vec<Edge>,
 ) -> Result<(), AllocError>
     requires reference { r < length (F.problem view.now).references }
-    requires singles { singles.now ≡ singles (F.state view.now) }
-    ensures { OnOk result (edges.new.items ≡ edges.old.items ++ reference_edges (F.problem view.now) (F.state view.now) r (length singles.now)) }
+    requires singles { objects.now ≡ singles (F.state view.now) }
+    ensures { OnOk result (edges.new.items ≡ edges.old.items ++ reference_edges (F.problem view.now) (F.state view.now) r (length objects.now)) }
 {
-    for x in 0..singles.len() {
-        push_row(view, singles, r, x, edges)?;
+    for x in 0..objects.len() {
+        push_row(view, objects, r, x, edges)?;
     }
     Ok(())
 }
 
 // The edges between the nodes.
-fn edges<F: Facts>(alloc: Global, view: &F, singles: &[u64]) -> Result<Vec<Edge>, AllocError>
-    requires { singles.now ≡ singles (F.state view.now) }
-    ensures { IfOk result (λ v. v.items ≡ edges_of (F.problem view.now) (F.state view.now) (length singles.now)) }
+fn edges<F: Facts>(alloc: Global, view: &F, objects: &[u64]) -> Result<Vec<Edge>, AllocError>
+    requires { objects.now ≡ singles (F.state view.now) }
+    ensures { IfOk result (λ v. v.items ≡ edges_of (F.problem view.now) (F.state view.now) (length objects.now)) }
 {
     let mut edges = Vec::new(alloc);
     for r in 0..view.problem().references.len() {
-        push_reference(view, singles, r as u32, &mut edges)?;
+        push_reference(view, objects, r as u32, &mut edges)?;
     }
     Ok(edges)
 }
@@ -179,9 +179,9 @@ fn edges<F: Facts>(alloc: Global, view: &F, singles: &[u64]) -> Result<Vec<Edge>
 pub fn graph_of<F: Facts>(alloc: Global, view: &F) -> Result<Graph, AllocError>
     ensures { IfOk result (λ g. g ≡ graph_of (F.problem view.now) (F.state view.now)) }
 {
-    let singles = singles(alloc, view)?;
-    let nodes = nodes(alloc, view, singles.as_slice())?;
-    let edges = edges(alloc, view, singles.as_slice())?;
+    let objects = singles(alloc, view)?;
+    let nodes = nodes(alloc, view, objects.as_slice())?;
+    let edges = edges(alloc, view, objects.as_slice())?;
     Ok(Graph {
         nodes: Items::from_vec(nodes),
         edges: Items::from_vec(edges),
