@@ -2,3 +2,5 @@
 pub mod GraphOf
 pub mod Reached
 pub mod Laws
+-- what only proofs cite
+pub mod Standing
