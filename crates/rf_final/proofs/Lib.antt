@@ -1,3 +1,6 @@
 mod Firsts
 mod Pieces
 mod Back
+mod Truths
+mod Settled
+mod Nodes
