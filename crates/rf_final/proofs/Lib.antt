@@ -4,3 +4,4 @@ mod Back
 mod Truths
 mod Settled
 mod Nodes
+mod Values
