@@ -5,3 +5,6 @@ mod Truths
 mod Settled
 mod Nodes
 mod Values
+mod Classes
+mod Counts
+mod Shape
