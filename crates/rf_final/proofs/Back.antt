@@ -219,7 +219,7 @@ module _ (p : Problem) (s : State) (o : ℕ) (l : o < length s.objects) where
     }
 
 -- what is said of each side of a decision is said of its effect, or of the fresh object
-abbrev Has : State → Graph → Type 0
+abbrev pub Has : State → Graph → Type 0
 Has s g = (h : Placing) × HasNodes s g h
 
 module _ (p : Problem) (s : State) where

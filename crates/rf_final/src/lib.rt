@@ -2,5 +2,7 @@
 #![tactic(auto)]
 
 mod graph;
+mod laws;
 
 pub use graph::graph_of;
+pub use laws::final_law;

@@ -1,0 +1,4 @@
+use Rattle.rf_final.proofs.laws.final_law.Goals as goal
+
+pub returns : goal.returns
+returns c = ?
