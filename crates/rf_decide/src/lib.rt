@@ -15,7 +15,7 @@ mod sizes;
 mod words;
 
 pub use choosing::{choices, choose, member};
-pub use counted::Counted;
+pub use counted::{Counted, choose_counted};
 pub use first_group::Choices;
 pub use laws::choice_law;
 pub use limit::MOST_OBJECTS;
