@@ -1,5 +1,5 @@
 -- Lists of decisions that are as they were.
-use Rattle.std.proofs.Common.{◌≡◌, ℕ, zero, suc, ◌<◌, Bool, true, false, ◌&&◌, ◌||◌, not, nat_lt, if◌then◌else◌, List, [], ◌∷◌, ◌++◌, length, refl, sym, ap, ap₂, ◌∙◌, arith, true≢false}
+use Rattle.std.proofs.Common.{◌≡◌, ℕ, Bool, true, false, ◌&&◌, ◌||◌, not, nat_lt, if◌then◌else◌, List, [], ◌∷◌, length, refl, sym, ap, ap₂, ◌∙◌, true≢false}
 use Rattle.std.specs.FinSet.{contains}
 use Rattle.rf_finite.specs.Passing.{joined}
 use Rattle.rf_finite.specs.Range.{all_below, some_below}

@@ -44,7 +44,12 @@ impl Counted {
     }
 
     /// What a change may have changed is no longer counted.
-    pub fn touch<F: Facts>(&mut self, alloc: Global, view: &F, change: Change) -> Result<(), AllocError>
+    pub fn touch<F: Facts>(
+        &mut self,
+        alloc: Global,
+        view: &F,
+        change: Change,
+    ) -> Result<(), AllocError>
         requires { FitsChange (F.problem view.now) (F.state view.now) change }
         ensures { let p = F.problem view.now in
             let t = F.state view.now in
@@ -155,7 +160,11 @@ fn edge_at<F: Facts>(view: &F, sizes: &Sizes, place: u64) -> Decision
 }
 
 /// The decision that a word takes, as [`choose`](crate::choose) finds it, where what isn't counted is counted if it is needed.
-pub fn choose_counted<F: Facts>(view: &F, counted: &mut Counted, word: u32) -> Option<(Decision, bool)>
+pub fn choose_counted<F: Facts>(
+    view: &F,
+    counted: &mut Counted,
+    word: u32,
+) -> Option<(Decision, bool)>
     requires few { length (F.state view.now).objects ≤ MOST_OBJECTS }
     requires counted { IsCounted (F.problem view.now) (F.state view.now) counted.old }
     ensures chosen { result ≡ chosen (F.problem view.now) (F.state view.now) word }
