@@ -1,16 +1,15 @@
 -- The decision that is chosen is allowed, and there is one where some decision is.
-use Rattle.std.proofs.Common.{◌≡◌, ◌↔◌, ℕ, zero, suc, ◌+◌, ◌/◌, ◌%◌, ◌<◌, Bool, true, false, Option, None, Some, List, [], ◌∷◌, length, get_or, refl, sym, ap, ◌∙◌, subst, inl, inr, arith, true≢false}
-use Rattle.std.proofs.lemmas.Bool.{and_parts, cases_Bool, cases_eq, false_from_ne_true, ltb-true, ne_eqb}
+use Rattle.std.proofs.Common.{◌≡◌, ℕ, ◌/◌, ◌%◌, Bool, true, false, Option, None, Some, [], ◌∷◌, length, refl, ap, subst, inl, inr, arith}
+use Rattle.std.proofs.lemmas.Bool.{and_parts, cases_Bool, cases_eq, ltb-true, ne_eqb}
 use Rattle.std.proofs.lemmas.List.Elements.{All-contains}
 use Rattle.std.proofs.Math.Nat.{mod-lt}
-use Rattle.rf_finite.specs.Passing.{joined}
 use Rattle.rf_problem.specs.declared.problem.Problem.{Problem}
 use Rattle.rf_state.specs.State.{State}
-use Rattle.rf_rules.specs.Decisions.{allowed, fits, is_open}
+use Rattle.rf_rules.specs.Decisions.{allowed, fits}
 use Rattle.rf_rules.specs.Rules.{is_object}
 use Rattle.rf_rules.specs.declared.decision.Decision.{Decision}
 use Rattle.rf_rules.specs.declared.decision.Decision.TheVariants.{Fresh, Kind, Ref}
-use Rattle.rf_decide.specs.Choice.{allowed_edges, allowed_fresh, allowed_kinds, chosen, edges_from, edges_of, group, group_number, if_allowed, kinds_of, leads, member_at, members, no_decision}
+use Rattle.rf_decide.specs.Choice.{allowed_edges, allowed_fresh, allowed_kinds, edges_from, edges_of, group, group_number, if_allowed, kinds_of, leads, member_at, members, no_decision}
 use Rattle.rf_decide.specs.Laws.{ChosenIsAllowed, MembersAreAllowed, NoneIsChosenWhereNoneIsAllowed}
 use Rattle.rf_decide.proofs.Allowed.{IsAllowed, group_allowed}
 use Rattle.rf_decide.proofs.Joining.{joined_none, joined_some}
