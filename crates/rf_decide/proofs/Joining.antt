@@ -6,7 +6,8 @@ use Rattle.std.proofs.lemmas.Nat.{div-mul-add, mod-mul-add}
 use Rattle.rf_finite.specs.Passing.{joined}
 
 -- the lists below a lesser number come first
-pub joined_more : {A : Type 0} (n m : ℕ) (f : ℕ → List A) (d : A) (i : ℕ) → m ≤ n → i < length (joined m f) → get_or (joined n f) i d ≡ get_or (joined m f) i d
+pub joined_more : {A : Type 0} (n m : ℕ) (f : ℕ → List A) (d : A) (i : ℕ) → m ≤ n → i < length (joined m f)
+    → get_or (joined n f) i d ≡ get_or (joined m f) i d
 joined_more zero m f d i le l = let e : m ≡ 0 = omega arith in subst (λ m. get_or [] i d ≡ get_or (joined m f) i d) (sym e) refl
 joined_more (suc n) m f d i le l = elim (cases_lt n m) [
   | inl lt ↦ (let e : m ≡ suc n = omega arith in subst (λ m. get_or (joined (suc n) f) i d ≡ get_or (joined m f) i d) (sym e) refl)
@@ -22,7 +23,8 @@ joined_more (suc n) m f d i le l = elim (cases_lt n m) [
     ]
 
 -- a place of one list
-pub joined_at : {A : Type 0} (n k : ℕ) (f : ℕ → List A) (d : A) (i : ℕ) → k < n → i < length (f k) → get_or (joined n f) (length (joined k f) + i) d ≡ get_or (f k) i d
+pub joined_at : {A : Type 0} (n k : ℕ) (f : ℕ → List A) (d : A) (i : ℕ) → k < n → i < length (f k)
+    → get_or (joined n f) (length (joined k f) + i) d ≡ get_or (f k) i d
 joined_at n k f d i l li =
     let two = length-append (joined k f) (f k) in
     let at : length (joined k f) ≤ length (joined k f) + i = omega arith in
@@ -60,7 +62,8 @@ joined_split m zero f =
     ap (λ k. joined k f) e ∙ sym (append-nil (joined m f))
 joined_split m (suc n) f =
     let e : m + suc n ≡ suc (m + n) = omega arith in
-    ap (λ k. joined k f) e ∙ (ap (λ xs. xs ++ f (m + n)) (joined_split m n f) ∙ append_assoc (joined m f) (joined n (λ k. f (m + k))) (f (m + n)))
+    ap (λ k. joined k f) e ∙ (ap (λ xs. xs ++ f (m + n)) (joined_split m n f)
+    ∙ append_assoc (joined m f) (joined n (λ k. f (m + k))) (f (m + n)))
 
 rows-joined : {A : Type 0} (m n : ℕ) (f : ℕ → ℕ → List A) → 0 < n → joined (m * n) (λ k. f (k / n) (k % n)) ≡ joined m (λ r. joined n (f r))
 rows-joined zero n f l = let e : 0 * n ≡ 0 = omega arith in ap (λ k. joined k (λ j. f (j / n) (j % n))) e

@@ -51,17 +51,20 @@ sizes-edges_touched m n most f g near was marks sizes touched same = record {
       let lr = reference_below k n m here l in
       let la : k % n < n = mod-lt k here in
       let place : k / n * n + k % n ≡ k = div-add-mod' k n in
-      let far = touched.far (k / n) (k % n) lr la (subst (λ (j : ℕ). j < length marks.rows.items) (sym place) (subst (λ (i : ℕ). k < i) (sym (touched.size ∙ sizes.marks)) l))
+      let far = touched.far (k / n) (k % n) lr la
+      (subst (λ (j : ℕ). j < length marks.rows.items) (sym place) (subst (λ (i : ℕ). k < i) (sym (touched.size ∙ sizes.marks)) l))
       (subst (λ (j : ℕ). is_marked marks j ≡ false) (sym place) h) in
       sizes.counted k l (subst (λ (j : ℕ). is_marked was.uncounted j ≡ false) place far.0) ∙ ap length (sym (same (k / n) (k % n) far.1))
       );
 }
 
-module _ (p : Problem) (s t : State) (change : Change) (is : IsChange change s t) (fits : FitsChange p t change) (old : is_fresh change ≡ false) where
+module _ (p : Problem) (s t : State) (change : Change) (is : IsChange change s t) (fits : FitsChange p t change)
+    (old : is_fresh change ≡ false) where
   many : length t.objects ≡ length s.objects
   many = same_many p s t change is old
 
-  pub kinds-after : (was : Sizes) (marks : Marks) → AreSizes (length s.objects) 256 (kinds_of p s) was → AreTouched (is_at_object change) was.uncounted marks
+  pub kinds-after : (was : Sizes) (marks : Marks) → AreSizes (length s.objects) 256 (kinds_of p s) was
+      → AreTouched (is_at_object change) was.uncounted marks
       → AreSizes (length t.objects) 256 (kinds_of p t) (record { numbers = was.numbers; uncounted = marks })
   kinds-after was marks sizes touched =
       sizes-touched (length t.objects) 256 (kinds_of p s) (kinds_of p t) (is_at_object change) was marks
@@ -72,6 +75,8 @@ module _ (p : Problem) (s t : State) (change : Change) (is : IsChange change s t
       → AreEdgesTouched (length p.references) (length t.objects) (is_near p t May change) was.uncounted marks
       → AreSizes (length p.references * length t.objects) MOST_OBJECTS (edge_row p t) (record { numbers = was.numbers; uncounted = marks })
   edges-after was marks sizes touched =
-      sizes-edges_touched (length p.references) (length t.objects) MOST_OBJECTS (edges_from p s) (edges_from p t) (is_near p t May change) was marks
-      (subst (λ (n : ℕ). AreSizes (length p.references * n) MOST_OBJECTS (λ k. edges_from p s (k / n) (k % n)) was) (sym many) sizes) touched
+      sizes-edges_touched (length p.references) (length t.objects) MOST_OBJECTS (edges_from p s)
+      (edges_from p t) (is_near p t May change) was marks
+      (subst (λ (n : ℕ). AreSizes (length p.references * n) MOST_OBJECTS (λ k. edges_from p s (k / n) (k % n)) was)
+      (sym many) sizes) touched
       (λ r a far. edges-same p s t r a (same_row p s t May change is fits r a far))

@@ -22,8 +22,8 @@ use rf_rules::Decision;
 use rf_state::Facts;
 use std::alloc::{AllocError, Global};
 
-/// How many decisions are allowed on the class of each object, and on the edges of each reference from each object, as far as they were
-/// counted. What a change may change is counted again once it is needed.
+/// How many decisions are allowed on the class of each object, and on the edges of each reference from each
+/// object, as far as they were counted. What a change may change is counted again once it is needed.
 #[derive(Debug, Drop)]
 pub struct Counted {
     kinds: Sizes,
@@ -159,7 +159,8 @@ fn edge_at<F: Facts>(view: &F, sizes: &Sizes, place: u64) -> Decision
     member_of(&edges, place)
 }
 
-/// The decision that a word takes, as [`choose`](crate::choose) finds it, where what isn't counted is counted if it is needed.
+/// The decision that a word takes, as [`choose`](crate::choose) finds it. What isn't counted is counted where
+/// it is needed.
 pub fn choose_counted<F: Facts>(
     view: &F,
     counted: &mut Counted,

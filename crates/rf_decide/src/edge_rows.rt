@@ -9,7 +9,8 @@ use crate::rows::EdgesFrom;
 use rf_rules::Decision;
 use rf_state::Facts;
 
-/// Those on the edges of all references, with a list for each reference and object, which are numbered reference by reference.
+/// Those on the edges of all references, with a list for each reference and object. The lists are numbered
+/// reference by reference.
 #[derive(Drop)]
 pub struct EdgeRows<'v, F: Facts> {
     pub view: &'v F,

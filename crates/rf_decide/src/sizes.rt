@@ -34,7 +34,8 @@ impl Sizes {
     pub fn known(&self, k: u64) -> Option<u64>
         requires number { k < length self.now.numbers.items }
         requires mark { k < length self.now.uncounted.rows.items }
-        ensures { IfSome result (λ size. (is_marked self.now.uncounted k ≡ false) × (size ≡ slice_index self.now.numbers.items k)) }
+        ensures { IfSome result (λ size.
+            (is_marked self.now.uncounted k ≡ false) × (size ≡ slice_index self.now.numbers.items k)) }
     {
         let k = k as usize;
         if k >= self.uncounted.start && self.uncounted.rows[k] {
@@ -48,8 +49,8 @@ impl Sizes {
     fn put(&mut self, k: usize, size: u64)
         requires number { k < length self.old.numbers.items }
         requires mark { k < length self.old.uncounted.rows.items }
-        ensures { (many most : ℕ) (list : ℕ → List Decision) → AreSizes many most list self.old → size ≡ length (list k) → size ≤ most
-            → AreSizes many most list self.new }
+        ensures { (many most : ℕ) (list : ℕ → List Decision) → AreSizes many most list self.old
+            → size ≡ length (list k) → size ≤ most → AreSizes many most list self.new }
     {
         self.numbers[k] = size;
         self.uncounted.rows[k] = false;

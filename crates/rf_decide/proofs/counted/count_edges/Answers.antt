@@ -8,4 +8,5 @@ pub returns-clause-total : goal.returns-clause-total
 returns-clause-total g c =
     let p = g.F.Facts.problem c.args.view.now in
     let s = g.F.Facts.state c.args.view.now in
-    c.count_all.ensures.total ∙ ap (λ (ds : List Decision). length ds) (joined_rows (length p.references) (length s.objects) (edges_from p s))
+    c.count_all.ensures.total ∙ ap (λ (ds : List Decision). length ds)
+    (joined_rows (length p.references) (length s.objects) (edges_from p s))

@@ -8,6 +8,8 @@ returns-else-is_fresh g c = λ s is counted.
     let t = g.F.Facts.state c.args.view.now in
     let old = sym c.is_fresh.ensures ∙ c.if-is_fresh.false in
     record {
-      kinds = kinds-after p s t c.args.change is c.requires old c.args.self.now.kinds c.touch_objects.new.marks counted.kinds c.touch_objects.ensures;
-      edges = edges-after p s t c.args.change is c.requires old c.args.self.now.edges c.touch_edges.new.marks counted.edges c.touch_edges.ensures;
+      kinds = kinds-after p s t c.args.change is c.requires old c.args.self.now.kinds c.touch_objects.new.marks
+          counted.kinds c.touch_objects.ensures;
+      edges = edges-after p s t c.args.change is c.requires old c.args.self.now.edges c.touch_edges.new.marks
+          counted.edges c.touch_edges.ensures;
     }
