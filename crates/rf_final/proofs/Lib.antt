@@ -8,3 +8,4 @@ mod Values
 mod Classes
 mod Counts
 mod Shape
+mod Scopes
