@@ -9,3 +9,6 @@ mod Classes
 mod Counts
 mod Shape
 mod Scopes
+mod Edges
+mod Inputs
+mod Whole
