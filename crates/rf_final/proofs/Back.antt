@@ -1,9 +1,9 @@
 -- Whatever nodes a reached state has, the root has.
-use Rattle.std.proofs.Common.{◌≡◌, ◌≢◌, ℕ, suc, ◌+◌, ◌-◌, ◌≤◌, ◌<◌, Bool, true, false, min, not, ◌&&◌, ◌||◌, ◌==◌, if◌then◌else◌, Option, Some, None, length, refl, sym, ap, ◌∙◌, subst, inl, inr, arith}
+use Rattle.std.proofs.Common.{◌≡◌, ◌≢◌, ℕ, suc, ◌+◌, ◌-◌, ◌<◌, Bool, true, false, min, ◌&&◌, ◌||◌, ◌==◌, Option, Some, None, length, refl, sym, ap, ◌∙◌, subst, inl, inr, arith}
 use Rattle.std.specs.Prelude.{nat_le}
 use Rattle.std.specs.Cmp.{nat_cmp_total}
-use Rattle.std.specs.FinSet.{contains as contains_class, contains-difference, contains-intersection, difference, intersection}
-use Rattle.std.proofs.lemmas.Bool.{and_parts, and_from, cases_Bool, cases_eq, cases_lt, eq-eqb, eqb-true, eqb-false, leb-true, le-leb, ltb-true, ne_eqb, or_cases}
+use Rattle.std.specs.FinSet.{contains as contains_class, contains-intersection, difference, intersection}
+use Rattle.std.proofs.lemmas.Bool.{and_parts, and_from, cases_Bool, cases_eq, eq-eqb, eqb-true, leb-true, le-leb, ltb-true, ne_eqb, or_cases}
 use Rattle.rf_finite.specs.Ends.{within}
 use Rattle.rf_finite.proofs.Range.{below_or_last, count_below-apart, count_below-cover, count_below-same}
 use Rattle.rf_values.specs.Count.{contains, end_less_one, ends_at, less_one, lesser_end, meet}
@@ -11,23 +11,23 @@ use Rattle.rf_values.specs.declared.class_set.ClassSet.{ClassSet}
 use Rattle.rf_values.specs.declared.count.Count.{Count}
 use Rattle.rf_values.specs.declared.truth.Truth.TheVariants.{False, True}
 use Rattle.rf_problem.specs.declared.problem.Problem.{Problem}
-use Rattle.rf_graph.specs.Graph.{class_of, origin_of, size_of}
+use Rattle.rf_graph.specs.Graph.{class_of, size_of}
 use Rattle.rf_graph.specs.declared.graph.Graph.{Graph}
-use Rattle.rf_state.specs.Laws.{AreSameButFor, IsFresh}
-use Rattle.rf_state.specs.State.{IsRoot, State, copied_from, fresh_of, kept_to, narrowed, object_of, with_object}
+use Rattle.rf_state.specs.Laws.{IsFresh}
+use Rattle.rf_state.specs.State.{IsRoot, State, copied_from, fresh_of, object_of, with_object}
 use Rattle.rf_state.specs.declared.object.Object.{Object}
 use Rattle.rf_state.proofs.EditLemmas.{fresh_is, own, same_but_for}
 use Rattle.rf_rules.specs.Applying.{IsApplicable}
 use Rattle.rf_rules.specs.Decisions.{allowed, side}
 use Rattle.rf_rules.specs.Effects.{after_effect}
-use Rattle.rf_rules.specs.Rules.{after, fires, instance_of, is_edge, is_object}
+use Rattle.rf_rules.specs.Rules.{instance_of, is_edge, is_object}
 use Rattle.rf_rules.specs.Words.{classes_below, hi, lo}
 use Rattle.rf_rules.specs.declared.decision.Decision.{Decision}
 use Rattle.rf_rules.specs.declared.decision.Decision.TheVariants.{Fresh, Kind, Ref}
 use Rattle.rf_rules.specs.declared.effect.Effect.{Effect}
 use Rattle.rf_rules.specs.declared.effect.Effect.TheVariants.{AtLeast, AtMost, Close, Keep, Lose, Merge}
 use Rattle.rf_rules.proofs.ApplyLemmas.{effect_is_applicable}
-use Rattle.rf_placement.specs.Placement.{Placing, StandsFor, nodes_at}
+use Rattle.rf_placement.specs.Placement.{Placing, nodes_at}
 use Rattle.rf_placement.proofs.Satisfied.{contains_parts}
 use Rattle.rf_final.specs.Reached.{IsReached, at_root, by_decision, by_rule}
 use Rattle.rf_final.specs.Standing.{HasNodes, IsStocked}

@@ -1,5 +1,5 @@
 -- The classes of the nodes of a final state.
-use Rattle.std.proofs.Common.{◌≡◌, ℕ, ◌<◌, Bool, true, false, not, ◌&&◌, ◌||◌, Option, None, Some, length, refl, sym, ap, ◌∙◌}
+use Rattle.std.proofs.Common.{◌≡◌, ℕ, ◌<◌, Bool, true, false, not, ◌||◌, Option, None, Some, length, refl}
 use Rattle.std.specs.Option.{ForSome}
 use Rattle.std.specs.FinSet.{contains as contains_class, difference}
 use Rattle.std.proofs.lemmas.Bool.{both_ways, or_right}

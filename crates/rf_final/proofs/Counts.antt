@@ -1,9 +1,9 @@
 -- Ends that are less, and counts of what passes without one that does.
-use Rattle.std.proofs.Common.{◌≡◌, ℕ, zero, suc, ◌≤◌, ◌<◌, Bool, true, false, not, ◌&&◌, ◌==◌, Option, Some, None, refl, sym, ap, ◌∙◌, inl, inr, arith}
-use Rattle.std.proofs.lemmas.Bool.{and_from, cases_Bool, cases_lt, false_from_ne_true, lt-leb, not_from_false}
+use Rattle.std.proofs.Common.{◌≡◌, ℕ, suc, ◌<◌, Bool, true, false, not, ◌&&◌, ◌==◌, Option, Some, refl, ap, ◌∙◌}
+use Rattle.std.proofs.lemmas.Bool.{and_from, lt-leb, not_from_false}
 use Rattle.rf_finite.specs.Ends.{within}
-use Rattle.rf_finite.specs.Range.{count_below, sum_below}
-use Rattle.rf_finite.proofs.Range.{count_below-none, count_below-same, count_below-without, one-from_count_below}
+use Rattle.rf_finite.specs.Range.{count_below}
+use Rattle.rf_finite.proofs.Range.{count_below-same, count_below-without}
 use Rattle.rf_rules.specs.Words.{is_less}
 
 -- an end that is less than a number

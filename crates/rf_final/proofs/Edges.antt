@@ -1,5 +1,5 @@
 -- The edges of the graph of a state stand for something, and no two are the same.
-use Rattle.std.proofs.Common.{◌≡◌, ◌≢◌, ℕ, ◌<◌, [], ◌∷◌, length, refl, ap, inl, inr, arith, All, AllPairs}
+use Rattle.std.proofs.Common.{◌≡◌, ◌≢◌, ℕ, ◌<◌, length, refl, ap, inl, inr, arith, All, AllPairs}
 use Rattle.std.proofs.lemmas.Bool.{cases_Bool, cases_eq}
 use Rattle.rf_finite.proofs.Joined.{all_joined, pairs_joined}
 use Rattle.rf_problem.specs.declared.problem.Problem.{Problem}

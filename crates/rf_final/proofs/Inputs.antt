@@ -1,5 +1,5 @@
 -- A graph whose nodes the root has: its nodes have classes and origins of the problem, and are as many as objects admit.
-use Rattle.std.proofs.Common.{◌≡◌, ℕ, ◌<◌, true, false, not, ◌&&◌, ◌==◌, [], ◌∷◌, length, refl, sym, ap, ◌∙◌, subst}
+use Rattle.std.proofs.Common.{◌≡◌, ℕ, ◌<◌, true, false, not, ◌&&◌, ◌==◌, [], ◌∷◌, length, sym, ap, ◌∙◌, subst}
 use Rattle.std.specs.Prelude.{nat_lt}
 use Rattle.std.proofs.lemmas.Bool.{and_parts, ltb-true, not-true}
 use Rattle.rf_finite.specs.Range.{all_below}
@@ -16,7 +16,7 @@ use Rattle.rf_graph.specs.Satisfied.{IsSatisfied}
 use Rattle.rf_graph.specs.Violations.{nodes_from}
 use Rattle.rf_graph.specs.declared.graph.Graph.{Graph}
 use Rattle.rf_graph.proofs.FirstOfKind.{MayHaveClass-from_test}
-use Rattle.rf_state.specs.State.{IsRoot, State, is_candidate, keeps_asserted, object_of}
+use Rattle.rf_state.specs.State.{IsRoot, State, is_candidate, keeps_asserted}
 use Rattle.rf_placement.specs.Placement.{Placing, nodes_at}
 use Rattle.rf_final.specs.Standing.{HasNodes}
 
@@ -57,7 +57,7 @@ module _ (p : Problem) (root : State) (is : IsRoot p root) (g : Graph) (h : Plac
   object_satisfied o l = record {
     number = (
         let many : nodes_at g h o ≡ nodes_from g o =
-          count_below-same (size_of g) (λ x. h x == o) (λ x. origin_of g x == o) (λ x lx. ap (λ q. q == o) (sym (is_origin x lx))) in
+        count_below-same (size_of g) (λ x. h x == o) (λ x. origin_of g x == o) (λ x lx. ap (λ q. q == o) (sym (is_origin x lx))) in
         subst (λ n. contains (admitted p o) n ≡ true) many
         (subst (λ count. contains count (nodes_at g h o) ≡ true) (is.counts o l) (c.counts o (subst (λ n. o < n) (sym is.many) l))));
     classes = λ x lx from. MayHaveClass-from_test p g (object_at p.objects o).name (object_at p.objects o).kind (class_of g x)

@@ -1,12 +1,11 @@
 -- A final state stands for its graph.
-use Rattle.std.proofs.Common.{◌≡◌, ℕ, ◌<◌, Bool, true, false, cond, if◌then◌else◌, ◌&&◌, ◌==◌, List, [], ◌∷◌, length, get_or, ◌⊎◌, refl, sym, ap, ◌∙◌, subst, inl, inr, arith, true≢false}
+use Rattle.std.proofs.Common.{◌≡◌, ℕ, ◌<◌, Bool, true, false, cond, ◌&&◌, ◌==◌, length, get_or, ◌⊎◌, refl, sym, ap, ◌∙◌, subst, inl, inr, arith, true≢false}
 use Rattle.std.specs.Prelude.{nat_le}
 use Rattle.std.specs.FinSet.{contains as contains_class}
 use Rattle.std.specs.List.{list_any}
 use Rattle.std.proofs.lemmas.Bool.{and_from, and_parts, or_cases, cases_Bool, false_from_ne_true, eqb-true, eq-eqb, le-leb}
 use Rattle.std.proofs.lemmas.List.{get_or-map, length-map}
 use Rattle.rf_finite.specs.Ends.{within}
-use Rattle.rf_finite.specs.Passing.{joined}
 use Rattle.rf_finite.specs.Range.{count_below}
 use Rattle.rf_finite.proofs.Ends.{within-from_le}
 use Rattle.rf_finite.proofs.Joined.{joined_found, joined_made}
@@ -86,7 +85,7 @@ module _ (p : Problem) (s : State) where
         omega arith,
         omega arith,
         same_truth (fact p s r (single_at s x) (single_at s y)) True
-        (subst (λ r. is_edge p s r x y ≡ true) er (subst (λ x. is_edge p s one.0 x y ≡ true) ex (subst (λ y. is_edge p s one.0 two.0 y ≡ true) ey e.3))),
+            (subst (λ r. is_edge p s r x y ≡ true) er (subst (λ x. is_edge p s one.0 x y ≡ true) ex (subst (λ y. is_edge p s one.0 two.0 y ≡ true) ey e.3))),
       )
 
   pub edge_made : (r x y : ℕ) → r < length p.references → x < size_of (graph_of p s) → y < size_of (graph_of p s) → fact p s r (single_at s x) (single_at s y) ≡ True

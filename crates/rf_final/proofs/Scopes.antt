@@ -11,10 +11,10 @@ use Rattle.rf_problem.specs.Counted.{counts_origin, has_scope_class}
 use Rattle.rf_problem.specs.Parts.{no_scope, scope_at}
 use Rattle.rf_problem.specs.declared.problem.Problem.{Problem}
 use Rattle.rf_problem.specs.declared.scope.Scope.{Scope as Bound}
-use Rattle.rf_graph.specs.Graph.{class_of, origin_of, size_of}
+use Rattle.rf_graph.specs.Graph.{size_of}
 use Rattle.rf_graph.specs.Violations.{is_counted}
 use Rattle.rf_state.specs.State.{State, object_of}
-use Rattle.rf_rules.specs.Rules.{is_object, is_scoped}
+use Rattle.rf_rules.specs.Rules.{is_object}
 use Rattle.rf_rules.specs.Scopes.{is_surely_counted, may_be_counted, may_count, scope_hi, scope_lo, sure_count_beside}
 use Rattle.rf_rules.specs.Words.{any_candidate, each_candidate, hi, is_one, lo}
 use Rattle.rf_rules.specs.declared.rule.Rule.TheVariants.{ScopeTop, Under}

@@ -3,7 +3,7 @@ use Rattle.std.proofs.Common.{◌≡◌, ℕ, suc, ◌≤◌, ◌<◌, Bool, tru
 use Rattle.std.specs.Prelude.{nat_le, nat_lt}
 use Rattle.std.specs.Cmp.{nat_cmp_total}
 use Rattle.std.specs.FinSet.{contains as contains_class, contains-difference, difference}
-use Rattle.std.proofs.lemmas.Bool.{and_from, and_parts, or_parts, cases_lt, not-true, not_from_false, false_from_ne_true, true_from_ne_false, both_ways, eq-eqb, eqb-true, leb-true, leb-false, le-leb, lt-ltb}
+use Rattle.std.proofs.lemmas.Bool.{and_from, and_parts, or_parts, cases_lt, not-true, not_from_false, false_from_ne_true, true_from_ne_false, both_ways, eq-eqb, leb-true, leb-false, le-leb, lt-ltb}
 use Rattle.rf_finite.specs.Ends.{within}
 use Rattle.rf_finite.proofs.Range.{one-from_some_below}
 use Rattle.rf_values.specs.ClassSet.{is_same_set}
@@ -13,7 +13,7 @@ use Rattle.rf_values.proofs.Marked.{equal_is_same}
 use Rattle.rf_problem.specs.declared.problem.Problem.{Problem}
 use Rattle.rf_state.specs.State.{State, all_candidates, fact, object_of, some_candidate}
 use Rattle.rf_rules.specs.Decisions.{allowed}
-use Rattle.rf_rules.specs.Effects.{Instance, has_effect, is_ready}
+use Rattle.rf_rules.specs.Effects.{has_effect, is_ready}
 use Rattle.rf_rules.specs.Rules.{fires, fits, instance_of, is_edge, is_object}
 use Rattle.rf_rules.specs.Words.{any_candidate, classes_where, hi, is_error, is_one, is_unknown, lo}
 use Rattle.rf_rules.specs.declared.decision.Decision.TheVariants.{Fresh, Kind, Ref}

@@ -1,13 +1,13 @@
 -- The graph of a final state has the shape that the problem asks for.
-use Rattle.std.proofs.Common.{◌≡◌, ℕ, zero, suc, ◌-◌, ◌≤◌, ◌<◌, Bool, true, false, cond, not, ◌&&◌, ◌||◌, ◌==◌, Option, Some, None, List, [], ◌∷◌, length, map, refl, sym, ap, ◌∙◌, subst, inl, inr, arith, true≢false}
+use Rattle.std.proofs.Common.{◌≡◌, ℕ, ◌-◌, ◌≤◌, ◌<◌, Bool, true, false, not, ◌&&◌, ◌||◌, ◌==◌, Option, Some, None, List, [], ◌∷◌, length, map, refl, sym, ap, ◌∙◌, subst, inl, inr, arith, true≢false}
 use Rattle.std.specs.Prelude.{is_some, nat_le, nat_lt, unwrap_or}
-use Rattle.std.proofs.lemmas.Bool.{and_parts, and_from, or_left, or_right, cases_Bool, cases_lt, not_from_false, false_from_ne_true, true_from_ne_false, both_ways, eqb-true, eq-eqb, leb-true, le-leb, lt-ltb}
+use Rattle.std.proofs.lemmas.Bool.{and_parts, and_from, or_left, or_right, cases_Bool, cases_lt, not_from_false, true_from_ne_false, both_ways, eqb-true, eq-eqb, le-leb, lt-ltb}
 use Rattle.rf_finite.specs.Ends.{within}
-use Rattle.rf_finite.specs.Range.{count_below, some_below, sum_below}
+use Rattle.rf_finite.specs.Range.{count_below, some_below}
 use Rattle.rf_finite.specs.Walks.{IsReachable, IsWalk}
 use Rattle.rf_finite.proofs.Lists.{list_any-from_one, one-from_list_any}
 use Rattle.rf_finite.proofs.Passing.{ends_singles, sum_singles}
-use Rattle.rf_finite.proofs.Range.{count_below-none, count_below-same, count_below-without, one-from_count_below, one-from_some_below, some_below-from_one}
+use Rattle.rf_finite.proofs.Range.{count_below-same, one-from_count_below, one-from_some_below, some_below-from_one}
 use Rattle.rf_finite.proofs.Walks.{walk_below-from_IsWalk}
 use Rattle.rf_values.specs.Truth as truth
 use Rattle.rf_values.specs.Truth.{merge}
@@ -26,7 +26,7 @@ use Rattle.rf_rules.specs.Containment.{has_possible, is_possible, leads, must_ho
 use Rattle.rf_rules.specs.Degrees.{may_sum, must_sum_beside}
 use Rattle.rf_rules.specs.Effects.{is_same_truth}
 use Rattle.rf_rules.specs.Rules.{is_edge, is_object}
-use Rattle.rf_rules.specs.Words.{hi, is_less, is_one, lo, max, may, min, must}
+use Rattle.rf_rules.specs.Words.{hi, is_one, lo, max, may, min, must}
 use Rattle.rf_rules.specs.declared.rule.Rule.TheVariants.{Acyclic, NoContainer, OneContainer, Room, TypeLow}
 use Rattle.rf_tree.specs.Saturated.{IsFinal}
 use Rattle.rf_final.specs.GraphOf.{graph_of, single_at}
