@@ -63,7 +63,8 @@ less_one_more a n some h =
     and_from (nat_le a.lo (n + 1)) (within (n + 1) a.hi) (le-leb a.lo (n + 1) (omega arith)) (one_more_within n a.hi some parts.1)
 
 -- where each object of s is looser, s has the nodes that t has
-loosened : (s t : State) (g : Graph) (h : Placing) → length t.objects ≡ length s.objects → ((q : ℕ) → IsLooser (object_of s q) (object_of t q)) → HasNodes t g h → HasNodes s g h
+loosened : (s t : State) (g : Graph) (h : Placing) → length t.objects ≡ length s.objects
+    → ((q : ℕ) → IsLooser (object_of s q) (object_of t q)) → HasNodes t g h → HasNodes s g h
 loosened s t g h many loose c = record {
   objects = λ x l. subst (λ n. h x < n) many (c.objects x l);
   origins = λ x l. sym (loose (h x)).origin ∙ c.origins x l;

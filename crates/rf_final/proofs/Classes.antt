@@ -38,10 +38,12 @@ module _ (p : Problem) (s : State) (f : IsFinal p s) where
     own : (x : ℕ) → x < size_of (graph_of p s) → IsNodeOf (graph_of p s) (single_at s) (single_at s x) x
     own x l = (l, refl)
 
-    node_passes : (x : ℕ) (test : ℕ → Bool) → x < size_of (graph_of p s) → each_candidate p s (single_at s x) test ≡ true → test (class_of (graph_of p s) x) ≡ true
+    node_passes : (x : ℕ) (test : ℕ → Bool) → x < size_of (graph_of p s) → each_candidate p s (single_at s x) test ≡ true
+        → test (class_of (graph_of p s) x) ≡ true
     node_passes x test l all = class_passes p s (graph_of p s) (single_at s) (stands p s f reached) (single_at s x) x test (class_below p s f x l) (own x l) all
 
-    some_passes : (x : ℕ) (test : ℕ → Bool) → x < size_of (graph_of p s) → test (class_of (graph_of p s) x) ≡ true → any_candidate p s (single_at s x) test ≡ true
+    some_passes : (x : ℕ) (test : ℕ → Bool) → x < size_of (graph_of p s) → test (class_of (graph_of p s) x) ≡ true
+        → any_candidate p s (single_at s x) test ≡ true
     some_passes x test l h = candidate_passes p s (graph_of p s) (single_at s) (stands p s f reached) (single_at s x) x test (class_below p s f x l) (own x l) h
 
     -- the class of a node is below what some candidate of its object is below

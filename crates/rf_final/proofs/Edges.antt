@@ -25,7 +25,8 @@ module _ (p : Problem) (s : State) (n : ℕ) where
   all_row : (P : Edge → Type 0) (r x : ℕ) → ((y : ℕ) → y < n → P (record { reference = r; from = x; to = y })) → All P (row_edges p s r x n)
   all_row P r x h = all_joined P n (λ y. edge_if (is_edge p s r x y) r x y) (λ y ly. all_here P r x y (h y ly))
 
-  all_reference : (P : Edge → Type 0) (r : ℕ) → ((x y : ℕ) → x < n → y < n → P (record { reference = r; from = x; to = y })) → All P (reference_edges p s r n)
+  all_reference : (P : Edge → Type 0) (r : ℕ) → ((x y : ℕ) → x < n → y < n → P (record { reference = r; from = x; to = y }))
+      → All P (reference_edges p s r n)
   all_reference P r h = all_joined P n (λ x. row_edges p s r x n) (λ x lx. all_row P r x (λ y ly. h x y lx ly))
 
   pub edges_fit : All (FitsEdge p n) (edges_of p s n)

@@ -50,7 +50,8 @@ module _ (p : Problem) (root : State) (is : IsRoot p root) (g : Graph) (h : Plac
       let parts = and_parts (nat_lt (class_of g x) (length p.classes)) (not (class_at p.classes (class_of g x)).is_abstract) (class_tests x l).0 in
       (ltb-true (class_of g x) (length p.classes) parts.0, not-true (class_at p.classes (class_of g x)).is_abstract parts.1)
 
-  pub class_kept : (x k : ℕ) → x < size_of g → k < length p.classes → keeps (asserted p (Class k) (origin_of g x ∷ [])) (is_below p.classes (class_of g x) k) ≡ true
+  pub class_kept : (x k : ℕ) → x < size_of g → k < length p.classes
+      → keeps (asserted p (Class k) (origin_of g x ∷ [])) (is_below p.classes (class_of g x) k) ≡ true
   class_kept x k l lk = each-from_all_below (length p.classes) (keeps_asserted p (origin_of g x) (class_of g x)) (class_tests x l).2 k lk
 
   pub object_satisfied : (o : ℕ) → o < length p.objects → IsSatisfied p g o

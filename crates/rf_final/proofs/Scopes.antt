@@ -46,12 +46,14 @@ module _ (p : Problem) (s : State) (f : IsFinal p s) (reached : IsReached p s) (
   -- a node is counted where its object may be, and where it surely is
   may : (x : ℕ) → x < size_of (graph_of p s) → is_counted p (graph_of p s) bound x ≡ may_be_counted p s z (single_at s x)
   may x l =
-      let some = any_candidate p s (single_at s x) (has_scope_class p bound.class) in let from = counts_origin p bound (object_of s (single_at s x)).origin in
+      let some = any_candidate p s (single_at s x) (has_scope_class p bound.class) in
+      let from = counts_origin p bound (object_of s (single_at s x)).origin in
       ap₂ (λ a b. a && b) (may_be_of p s f reached x bound.class declared l) (ap (counts_origin p bound) (origin_is p s x l)) ∙ and_swap some from
 
   sure : (x : ℕ) → x < size_of (graph_of p s) → is_counted p (graph_of p s) bound x ≡ is_surely_counted p s z (single_at s x)
   sure x l =
-      let each = each_candidate p s (single_at s x) (has_scope_class p bound.class) in let from = counts_origin p bound (object_of s (single_at s x)).origin in
+      let each = each_candidate p s (single_at s x) (has_scope_class p bound.class) in
+      let from = counts_origin p bound (object_of s (single_at s x)).origin in
       ap₂ (λ a b. a && b) (surely_of p s f reached x bound.class declared l) (ap (counts_origin p bound) (origin_is p s x l)) ∙ and_swap each from
 
   pub scope_low : scope_lo p z ≤ counted

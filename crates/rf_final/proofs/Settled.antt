@@ -31,7 +31,8 @@ IsOne s o = (lo s o ≡ 1) × (hi s o ≡ Some 1)
 abbrev pub IsNone : State → ℕ → Type 0
 IsNone s o = (lo s o ≡ 0) × (hi s o ≡ Some 0)
 
-one_or_none : (l : ℕ) (u : Option ℕ) → within l u ≡ true → within 2 u ≡ false → (l == 0 && ends_at 1 u) ≡ false → ((l ≡ 1) × (u ≡ Some 1)) ⊎ ((l ≡ 0) × (u ≡ Some 0))
+one_or_none : (l : ℕ) (u : Option ℕ) → within l u ≡ true → within 2 u ≡ false → (l == 0 && ends_at 1 u) ≡ false
+    → ((l ≡ 1) × (u ≡ Some 1)) ⊎ ((l ≡ 0) × (u ≡ Some 0))
 one_or_none l None i t z = absurd (true≢false t)
 one_or_none l (Some e) i t z =
     let a = leb-true l e i in let b = leb-false 2 e t in
@@ -51,7 +52,8 @@ none_single s o e = rw e.0 refl
 
 module _ (p : Problem) (s : State) (f : IsFinal p s) where
   -- where what a rule asks for holds, it would change nothing
-  pub quiet : (rule : Rule) → fits p s rule ≡ true → (instance_of p s rule).holds ≡ true → has_effect s (instance_of p s rule).effect ≡ false
+  pub quiet : (rule : Rule) → fits p s rule ≡ true → (instance_of p s rule).holds ≡ true
+      → has_effect s (instance_of p s rule).effect ≡ false
   quiet rule r c = false_from_ne_true (has_effect s (instance_of p s rule).effect) (λ h. both_ways (fires p s rule) (f.saturated rule)
       (and_from (fits p s rule) (is_ready s (instance_of p s rule)) r (and_from (instance_of p s rule).holds (has_effect s (instance_of p s rule).effect) c h)))
 
@@ -85,7 +87,8 @@ module _ (p : Problem) (s : State) (f : IsFinal p s) where
   not_less o n l single w = let u = (single_counts o l single).1 in let k = leb-false (suc n) 1 (rw u at w) in omega arith
 
   -- candidates of which none is to be lost don't pass
-  pub not_lost : (o c : ℕ) (test : ℕ → Bool) → not (is_same_set (difference (object_of s o).candidates (classes_where p test)) (object_of s o).candidates) ≡ false
+  pub not_lost : (o c : ℕ) (test : ℕ → Bool)
+      → not (is_same_set (difference (object_of s o).candidates (classes_where p test)) (object_of s o).candidates) ≡ false
       → c < length p.classes → contains_class (object_of s o).candidates c ≡ true → test c ≡ false
   not_lost o c test same l there =
       let own = (object_of s o).candidates in let lost = classes_where p test in
@@ -99,13 +102,15 @@ module _ (p : Problem) (s : State) (f : IsFinal p s) where
   has_candidate o l single = true_from_ne_false (any_candidate p s o (λ c. true)) (λ e.
       let k = not_less o 0 l single (quiet (NoClass o) (lt-ltb o (length s.objects) l) (not_from_false (any_candidate p s o (λ c. true)) e)) in absurd (omega arith))
 
-  pub one_candidate : (o : ℕ) → o < length s.objects → is_one s o ≡ true → (c : ℕ) × (c < length p.classes) × (contains_class (object_of s o).candidates c ≡ true)
+  pub one_candidate : (o : ℕ) → o < length s.objects → is_one s o ≡ true
+      → (c : ℕ) × (c < length p.classes) × (contains_class (object_of s o).candidates c ≡ true)
   one_candidate o l single =
       let r = one-from_some_below (length p.classes) (λ c. contains_class (object_of s o).candidates c && true) (has_candidate o l single) in
       (r.0, r.1, (and_parts (contains_class (object_of s o).candidates r.0) true r.2).0)
 
   -- the candidates of a single object are all below a class, or none is
-  pub some_each : (o k : ℕ) → k < length p.classes → o < length s.objects → is_one s o ≡ true → some_candidate p s o k ≡ true → all_candidates p s o k ≡ true
+  pub some_each : (o k : ℕ) → k < length p.classes → o < length s.objects → is_one s o ≡ true → some_candidate p s o k ≡ true
+      → all_candidates p s o k ≡ true
   some_each o k lk l single h = true_from_ne_false (all_candidates p s o k) (λ e. both_ways (allowed p s (Kind o k)) (f.decided (Kind o k))
       (and_from (is_object s o && nat_lt k (length p.classes)) (is_one s o && (some_candidate p s o k && not (all_candidates p s o k)))
       (and_from (is_object s o) (nat_lt k (length p.classes)) (lt-ltb o (length s.objects) l) (lt-ltb k (length p.classes) lk))
@@ -113,7 +118,8 @@ module _ (p : Problem) (s : State) (f : IsFinal p s) where
       (and_from (some_candidate p s o k) (not (all_candidates p s o k)) h (not_from_false (all_candidates p s o k) e)))))
 
   -- what is known of an edge between single objects is true or false
-  pub fact_settled : (r a b : ℕ) → r < length p.references → a < length s.objects → b < length s.objects → is_one s a ≡ true → is_one s b ≡ true
+  pub fact_settled : (r a b : ℕ) → r < length p.references → a < length s.objects → b < length s.objects → is_one s a ≡ true
+      → is_one s b ≡ true
       → (fact p s r a b ≡ True) ⊎ (fact p s r a b ≡ False)
   fact_settled r a b lr la lb sa sb = true_or_false (fact p s r a b)
       (false_from_ne_true (is_unknown (fact p s r a b)) (λ e. both_ways (allowed p s (Ref r a b)) (f.decided (Ref r a b))

@@ -49,13 +49,15 @@ module _ (p : Problem) (s : State) (f : IsFinal p s) where
       → (is_below p.classes (class_of (graph_of p s) x) (reference_at p.references r).source ≡ true) × (is_below p.classes (class_of (graph_of p s) y) (reference_at p.references r).target ≡ true)
   edge_ends reached r x y h =
       let e = edge_found p s r x y h in let a = single_at s x in let b = single_at s y in
-      let from = some_candidate p s a (reference_at p.references r).source in let to = some_candidate p s b (reference_at p.references r).target in
+      let from = some_candidate p s a (reference_at p.references r).source in
+      let to = some_candidate p s b (reference_at p.references r).target in
       let both = and_parts from to (fits_classes (from && to) (fact_parts p s r a b true (let t = e.3 in rw t refl)).classes) in (
         node_below p s f reached x (reference_at p.references r).source (p.references_fit.sources r no_reference e.0) e.1 both.0,
         node_below p s f reached y (reference_at p.references r).target (p.references_fit.targets r no_reference e.0) e.2 both.1,
       )
 
-  pub edge_opposite : (r q x y : ℕ) → has_edge (graph_of p s) r x y ≡ true → (reference_at p.references r).opposite ≡ Some q → has_edge (graph_of p s) q y x ≡ true
+  pub edge_opposite : (r q x y : ℕ) → has_edge (graph_of p s) r x y ≡ true → (reference_at p.references r).opposite ≡ Some q
+      → has_edge (graph_of p s) q y x ≡ true
   edge_opposite r q x y h o =
       let e = edge_found p s r x y h in let m = opposite p r q o in
       edge_made p s q y x m.there e.2 e.1 (sym (fact-mirrored p s r q (single_at s x) (single_at s y) o) ∙ e.3)
@@ -71,7 +73,8 @@ module _ (p : Problem) (s : State) (f : IsFinal p s) where
       ])
       ∙ count_nodes p s (λ o. test (fact p s r (single_at s x) o))
 
-  pub degree_low : (r x : ℕ) → r < length p.references → x < size_of (graph_of p s) → is_below p.classes (class_of (graph_of p s) x) (reference_at p.references r).source ≡ true
+  pub degree_low : (r x : ℕ) → r < length p.references → x < size_of (graph_of p s)
+      → is_below p.classes (class_of (graph_of p s) x) (reference_at p.references r).source ≡ true
       → (reference_at p.references r).range.lo ≤ count_below (size_of (graph_of p s)) (has_edge (graph_of p s) r x)
   degree_low r x lr lx below =
       let a = single_at s x in let at = node_single p s x lx in
@@ -110,7 +113,8 @@ module _ (p : Problem) (s : State) (f : IsFinal p s) where
             | inr ge ↦ le-leb d m ge
           ]
 
-  pub held_once : (r x q y z : ℕ) → is_containing p r ≡ true → is_containing p q ≡ true → has_edge (graph_of p s) r x z ≡ true → has_edge (graph_of p s) q y z ≡ true → (r ≡ q) × (x ≡ y)
+  pub held_once : (r x q y z : ℕ) → is_containing p r ≡ true → is_containing p q ≡ true → has_edge (graph_of p s) r x z ≡ true
+      → has_edge (graph_of p s) q y z ≡ true → (r ≡ q) × (x ≡ y)
   held_once r x q y z cr cq hr hq =
       let er = edge_found p s r x z hr in let eq = edge_found p s q y z hq in
       let a = single_at s x in let b = single_at s z in let c = single_at s y in
@@ -173,7 +177,8 @@ module _ (p : Problem) (s : State) (f : IsFinal p s) where
       let at = node_single p s c w.1 in
       (contain_step x c w.0, at.0, single_low p s f (single_at s c) at.0 at.1, contain_walk c cs y w.3)
 
-  not_closing : (r x y : ℕ) → is_containing p r ≡ true → r < length p.references → x < size_of (graph_of p s) → y < size_of (graph_of p s) → fact p s r (single_at s x) (single_at s y) ≡ True
+  not_closing : (r x y : ℕ) → is_containing p r ≡ true → r < length p.references → x < size_of (graph_of p s) → y < size_of (graph_of p s)
+      → fact p s r (single_at s x) (single_at s y) ≡ True
       → ((single_at s x == single_at s y && is_one s (single_at s x)) || leads p s (single_at s y) (single_at s x)) ≡ true → ⊥
   not_closing r x y cr lr lx ly t h =
       let a = single_at s x in let b = single_at s y in let ata = node_single p s x lx in let atb = node_single p s y ly in

@@ -34,7 +34,8 @@ false_changes False k = absurd (true≢false (sym k))
 false_changes Error k = absurd (true≢false (sym k))
 
 -- a value that is settled, is so of a fact, and isn't merged into an error: the fact keeps what was asserted
-pub merged_kept : (v w : Truth) (holds : Bool) → (may w ≡ true → must w ≡ true) → keeps w holds ≡ true → is_error (merge v w) ≡ false → keeps v holds ≡ true
+pub merged_kept : (v w : Truth) (holds : Bool) → (may w ≡ true → must w ≡ true) → keeps w holds ≡ true → is_error (merge v w) ≡ false
+    → keeps v holds ≡ true
 merged_kept v Error holds settled kept none = absurd (true≢false (sym kept))
 merged_kept v Unknown holds settled kept none = absurd (true≢false (sym (settled refl)))
 merged_kept Unknown w holds settled kept none = refl

@@ -49,7 +49,8 @@ module _ (p : Problem) (s : State) (f : IsFinal p s) where
   edge_known : (r a b : ℕ) → a < length s.objects → b < length s.objects → (state_known p s).edge r a b ≡ fact p s r a b
   edge_known r a b la lb = let there = lt-ltb a (length s.objects) la in let too = lt-ltb b (length s.objects) lb in rw (there, too) refl
 
-  settled_fact : (r a b : ℕ) → r < length p.references → IsTwin s a a → IsTwin s b b → may (fact p s r a b) ≡ true → must (fact p s r a b) ≡ true
+  settled_fact : (r a b : ℕ) → r < length p.references → IsTwin s a a → IsTwin s b b → may (fact p s r a b) ≡ true
+      → must (fact p s r a b) ≡ true
   settled_fact r a b l ta tb m = elim (fact_settled p s f r a b l ta.1 tb.1 ta.2 tb.2) [
     | inl e ↦ rw e refl
     | inr e ↦ absurd (true≢false (sym m ∙ ap may e))
@@ -99,10 +100,12 @@ module _ (p : Problem) (s : State) (f : IsFinal p s) where
   AreSingle t = All (λ o. (o < length s.objects) × (is_one s o ≡ true)) t
 
   -- the value of a predicate at single objects
-  settled_value : (q : ℕ) (t : List ℕ) → length t ≡ (predicate_at p.predicates q).arity → AreSingle t → may (value p s q t) ≡ true → must (value p s q t) ≡ true
+  settled_value : (q : ℕ) (t : List ℕ) → length t ≡ (predicate_at p.predicates q).arity → AreSingle t → may (value p s q t) ≡ true
+      → must (value p s q t) ≡ true
   settled_value q t len l m =
       let n = length p.predicates in let k = state_known p s in
-      let has_to = predicate_true p.predicates n (side must k) (side may k) q t in let can = predicate_true p.predicates n (side may k) (side must k) q t in
+      let has_to = predicate_true p.predicates n (side must k) (side may k) q t in
+      let can = predicate_true p.predicates n (side may k) (side must k) q t in
       must-truth_of has_to can ∙ predicates_carry_over p (IsTwin s) n (side may k) (side must k) (side must k) (side may k) settled settled_back
       q t t (record { left = len; right = len; each = λ i k. (let r = l i 0 (omega arith) in (refl, r.0, r.1)) }) (sym (may-truth_of has_to can) ∙ m)
 
@@ -113,7 +116,8 @@ module _ (p : Problem) (s : State) (f : IsFinal p s) where
         subst (λ o. (o < length s.objects) × (is_one s o ≡ true)) (sym (get_or-map (single_at s) t i 0 d lt)) (node_single p s (get_or t i 0) (l i 0 lt))
 
     -- what is asserted of predicates is kept
-    pub predicate_kept : (q : ℕ) (t : List ℕ) → q < length p.predicates → length t ≡ (predicate_at p.predicates q).arity → All (λ x. x < size_of (graph_of p s)) t
+    pub predicate_kept : (q : ℕ) (t : List ℕ) → q < length p.predicates → length t ≡ (predicate_at p.predicates q).arity
+        → All (λ x. x < size_of (graph_of p s)) t
         → keeps (asserted p (Predicate q) (map (origin_of (graph_of p s)) t)) (holds p (graph_of p s) (Predicate q) t) ≡ true
     predicate_kept q t lq len l =
         let u : List ℕ = map (single_at s) t in

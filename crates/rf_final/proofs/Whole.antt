@@ -24,7 +24,7 @@ use Rattle.rf_graph.proofs.Satisfying.{Sat-from_Satisfies}
 use Rattle.rf_state.specs.State.{IsRoot, State}
 use Rattle.rf_tree.specs.Saturated.{IsFinal}
 use Rattle.rf_final.specs.GraphOf.{graph_of, node_of, single_at, singles}
-use Rattle.rf_final.specs.Laws.{FinalSatisfies}
+use Rattle.rf_final.specs.Laws.{FinalIsConcretised, FinalSatisfies}
 use Rattle.rf_final.specs.Reached.{IsReached}
 use Rattle.rf_final.proofs.Back.{Has, reached_back}
 use Rattle.rf_final.proofs.Edges.{edges_distinct, edges_fit}
@@ -109,3 +109,6 @@ pub final_satisfies : FinalSatisfies
 final_satisfies p s reached f =
     let back = reached_back p s reached (graph_of p s) (single_at s, has_nodes p s f) in
     Sat-from_Satisfies p (graph_of p s) (fits p s reached f back.0 back.1 back.2) (satisfies p s reached f back.0 back.1 back.2)
+
+pub final_is_concretised : FinalIsConcretised
+final_is_concretised p s reached f = record { satisfies = final_satisfies p s reached f; stands = stands p s f reached }

@@ -5,4 +5,4 @@ mod graph;
 mod laws;
 
 pub use graph::graph_of;
-pub use laws::final_law;
+pub use laws::{concretised_law, final_law, size_law};
