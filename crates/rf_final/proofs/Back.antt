@@ -100,7 +100,8 @@ kept_looser : (x : Object) (set : ClassSet) → IsLooser x (record x { candidate
 kept_looser x set = record {
   origin = refl;
   count = λ n k. k;
-  candidates = λ c k. (and_parts (contains_class x.candidates c) (contains_class set c) (sym (contains-intersection nat_cmp_total x.candidates set c) ∙ k)).0;
+  candidates = λ c k. (and_parts (contains_class x.candidates c) (contains_class set c)
+      (sym (contains-intersection nat_cmp_total x.candidates set c) ∙ k)).0;
 }
 
 module _ (p : Problem) (s : State) where
@@ -109,7 +110,8 @@ module _ (p : Problem) (s : State) where
   effect_back (AtMost o n) fits g h c = with_back p s o _ fits.0 (met_looser (object_of s o) (record { lo = 0; hi = Some n })) g h c
   effect_back (AtLeast o n) fits g h c = with_back p s o _ fits.0 (met_looser (object_of s o) (record { lo = n; hi = None })) g h c
   effect_back (Keep o set) fits g h c = with_back p s o _ fits (kept_looser (object_of s o) set) g h c
-  effect_back (Lose o set) fits g h c = with_back p s o _ fits (kept_looser (object_of s o) (difference (object_of s o).candidates set)) g h c
+  effect_back (Lose o set) fits g h c =
+      with_back p s o _ fits (kept_looser (object_of s o) (difference (object_of s o).candidates set)) g h c
   effect_back (Merge r a b v) fits g h c = record { objects = c.objects; origins = c.origins; counts = c.counts; classes = c.classes }
 
   effect_stocked : (e : Effect) → IsApplicable p s e → IsStocked p s → IsStocked p (after_effect s e)
@@ -150,7 +152,8 @@ module _ (p : Problem) (s : State) (o : ℕ) (l : o < length s.objects) where
   fresh_stocked : IsStocked p s → IsStocked p (fresh_of s o)
   fresh_stocked c = record {
     many = let more = one_more in let all = c.many in omega arith;
-    numbered = λ q k. each_object (λ q z. q < length p.objects → z.origin ≡ q) (λ l. let all = c.many in absurd (omega arith)) (c.numbered o) (λ q old ne. c.numbered q) q
+    numbered = λ q k. each_object (λ q z. q < length p.objects → z.origin ≡ q) (λ l. let all = c.many in absurd (omega arith))
+        (c.numbered o) (λ q old ne. c.numbered q) q
         (let all = c.many in omega arith) k;
   }
 
@@ -179,7 +182,8 @@ module _ (p : Problem) (s : State) (o : ℕ) (l : o < length s.objects) where
     one_copy : nodes_at g h n ≡ 1
     one_copy =
         let k : contains (object_of (fresh_of s o) n).count (nodes_at g h n) ≡ true = c.counts n (let more = one_more in omega arith) in
-        let parts = contains_parts (record { lo = 1; hi = Some 1 }) (nodes_at g h n) (subst (λ z. contains z.count (nodes_at g h n) ≡ true) fresh.fresh k) in
+        let parts = contains_parts (record { lo = 1; hi = Some 1 }) (nodes_at g h n)
+        (subst (λ z. contains z.count (nodes_at g h n) ≡ true) fresh.fresh k) in
         let low = parts.0 in let high = leb-true (nodes_at g h n) 1 parts.1 in omega arith
 
     both : nodes_at g to o ≡ nodes_at g h o + 1
@@ -216,7 +220,8 @@ module _ (p : Problem) (s : State) (o : ℕ) (l : o < length s.objects) where
       objects = λ x k. was_there (h x) (there x k);
       origins = λ x k. same_was (λ z. z.origin) refl refl (h x) (there x k) ∙ c.origins x k;
       counts = counts_before;
-      classes = λ x k. subst (λ set. contains_class set (class_of g x) ≡ true) (sym (same_was (λ z. z.candidates) refl refl (h x) (there x k))) (c.classes x k);
+      classes = λ x k. subst (λ set. contains_class set (class_of g x) ≡ true)
+          (sym (same_was (λ z. z.candidates) refl refl (h x) (there x k))) (c.classes x k);
     }
 
 -- what is said of each side of a decision is said of its effect, or of the fresh object
@@ -259,12 +264,15 @@ module _ (p : Problem) (s : State) where
   side_back (Kind o k) false a g c =
       let one = and_parts _ _ a in let two = and_parts (is_object s o) _ one.0 in
       (c.0, effect_back p s (Lose o (classes_below p k)) (ltb-true o (length s.objects) two.0) g c.0 c.1)
-  side_back (Ref r x y) true a g c = (c.0, effect_back p s (Merge r x y True) (edge_applies r x y (and_parts (is_edge p s r x y) _ a).0) g c.0 c.1)
-  side_back (Ref r x y) false a g c = (c.0, effect_back p s (Merge r x y False) (edge_applies r x y (and_parts (is_edge p s r x y) _ a).0) g c.0 c.1)
+  side_back (Ref r x y) true a g c =
+      (c.0, effect_back p s (Merge r x y True) (edge_applies r x y (and_parts (is_edge p s r x y) _ a).0) g c.0 c.1)
+  side_back (Ref r x y) false a g c =
+      (c.0, effect_back p s (Merge r x y False) (edge_applies r x y (and_parts (is_edge p s r x y) _ a).0) g c.0 c.1)
 
   side_stocked : (d : Decision) (first : Bool) → allowed p s d ≡ true → IsStocked p s → IsStocked p (side p s d first)
   side_stocked (Fresh o) true a c = fresh_stocked p s o (ltb-true o (length s.objects) (and_parts (is_object s o) _ a).0) c
-  side_stocked (Fresh o) false a c = effect_stocked p s (AtMost o 0) (none_fits o (ltb-true o (length s.objects) (and_parts (is_object s o) _ a).0)) c
+  side_stocked (Fresh o) false a c =
+      effect_stocked p s (AtMost o 0) (none_fits o (ltb-true o (length s.objects) (and_parts (is_object s o) _ a).0)) c
   side_stocked (Kind o k) true a c =
       let one = and_parts _ _ a in let two = and_parts (is_object s o) _ one.0 in
       effect_stocked p s (Keep o (classes_below p k)) (ltb-true o (length s.objects) two.0) c
@@ -276,10 +284,12 @@ module _ (p : Problem) (s : State) where
 
 pub reached_stocked : (p : Problem) (s : State) → IsReached p s → IsStocked p s
 reached_stocked p _ (at_root s is) = record { many = let same = is.many in omega arith; numbered = is.origins }
-reached_stocked p _ (by_rule s rule r f e) = effect_stocked p s (instance_of p s rule).effect (effect_is_applicable p s rule f) (reached_stocked p s r)
+reached_stocked p _ (by_rule s rule r f e) =
+    effect_stocked p s (instance_of p s rule).effect (effect_is_applicable p s rule f) (reached_stocked p s r)
 reached_stocked p _ (by_decision s d first r a) = side_stocked p s d first a (reached_stocked p s r)
 
 pub reached_back : (p : Problem) (s : State) → IsReached p s → (g : Graph) → Has s g → (root : State) × IsRoot p root × Has root g
 reached_back p _ (at_root s is) g c = (s, is, c)
-reached_back p _ (by_rule s rule r f e) g c = reached_back p s r g (c.0, effect_back p s (instance_of p s rule).effect (effect_is_applicable p s rule f) g c.0 c.1)
+reached_back p _ (by_rule s rule r f e) g c =
+    reached_back p s r g (c.0, effect_back p s (instance_of p s rule).effect (effect_is_applicable p s rule f) g c.0 c.1)
 reached_back p _ (by_decision s d first r a) g c = reached_back p s r g (side_back p s d first a g c)

@@ -21,4 +21,5 @@ pub others : (n : ℕ) (single q : ℕ → Bool) (b : ℕ) → b < n → single 
     → count_below n (λ k. single k && q k) ≡ suc (count_below n (λ k. single k && (not (k == b) && q k)))
 others n single q b l hs hq =
     count_below-without n (λ k. single k && q k) b l (and_from (single b) (q b) hs hq)
-    ∙ ap suc (count_below-same n (λ k. not (k == b) && (single k && q k)) (λ k. single k && (not (k == b) && q k)) (λ k lk. swap (not (k == b)) (single k) (q k)))
+    ∙ ap suc (count_below-same n (λ k. not (k == b) && (single k && q k)) (λ k. single k && (not (k == b) && q k))
+    (λ k lk. swap (not (k == b)) (single k) (q k)))

@@ -34,11 +34,15 @@ module _ (p : Problem) (s : State) (n : ℕ) where
       (λ r lr. all_reference (FitsEdge p n) r (λ x y lx ly. record { reference = lr; from_node = lx; to_node = ly }))
 
   row_distinct : (r x : ℕ) → AllPairs (λ (e f : Edge). e ≢ f) (row_edges p s r x n)
-  row_distinct r x = pairs_joined (λ (e f : Edge). e ≢ f) (λ (e : Edge). e.to) n (λ y. edge_if (is_edge p s r x y) r x y) (λ e f ne same. ne (ap (λ (e : Edge). e.to) same))
+  row_distinct r x =
+      pairs_joined (λ (e f : Edge). e ≢ f) (λ (e : Edge). e.to) n (λ y. edge_if (is_edge p s r x y) r x y)
+      (λ e f ne same. ne (ap (λ (e : Edge). e.to) same))
       (λ y ly. all_here (λ (e : Edge). e.to ≡ y) r x y refl) (λ y ly. one_here r x y)
 
   reference_distinct : (r : ℕ) → AllPairs (λ (e f : Edge). e ≢ f) (reference_edges p s r n)
-  reference_distinct r = pairs_joined (λ (e f : Edge). e ≢ f) (λ (e : Edge). e.from) n (λ x. row_edges p s r x n) (λ e f ne same. ne (ap (λ (e : Edge). e.from) same))
+  reference_distinct r =
+      pairs_joined (λ (e f : Edge). e ≢ f) (λ (e : Edge). e.from) n (λ x. row_edges p s r x n)
+      (λ e f ne same. ne (ap (λ (e : Edge). e.from) same))
       (λ x lx. all_row (λ (e : Edge). e.from ≡ x) r x (λ y ly. refl)) (λ x lx. row_distinct r x)
 
   pub edges_distinct : AllPairs (λ (e f : Edge). e ≢ f) (edges_of p s n)

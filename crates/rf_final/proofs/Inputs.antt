@@ -32,14 +32,18 @@ module _ (p : Problem) (root : State) (is : IsRoot p root) (g : Graph) (h : Plac
   origin_there x l = subst (λ o. o < length p.objects) (sym (is_origin x l)) (there x l)
 
   root_class : (x : ℕ) → x < size_of g → is_candidate p (origin_of g x) (class_of g x) ≡ true
-  root_class x l = subst (λ o. is_candidate p o (class_of g x) ≡ true) (sym (is_origin x l)) (sym (is.candidates (h x) (class_of g x) (there x l)) ∙ c.classes x l)
+  root_class x l =
+      subst (λ o. is_candidate p o (class_of g x) ≡ true) (sym (is_origin x l))
+      (sym (is.candidates (h x) (class_of g x) (there x l)) ∙ c.classes x l)
 
   -- the tests of a candidate
   class_tests : (x : ℕ) → x < size_of g → (is_concrete p.classes (class_of g x) ≡ true)
-      × (may_have_class p.classes (object_at p.objects (origin_of g x)).name (object_at p.objects (origin_of g x)).kind (class_of g x) ≡ true)
+      × (may_have_class p.classes (object_at p.objects (origin_of g x)).name (object_at p.objects (origin_of g x)).kind (class_of g x)
+      ≡ true)
       × (all_below (length p.classes) (keeps_asserted p (origin_of g x) (class_of g x)) ≡ true)
   class_tests x l =
-      let may = may_have_class p.classes (object_at p.objects (origin_of g x)).name (object_at p.objects (origin_of g x)).kind (class_of g x) in
+      let may = may_have_class p.classes (object_at p.objects (origin_of g x)).name (object_at p.objects (origin_of g x)).kind
+      (class_of g x) in
       let kept = all_below (length p.classes) (keeps_asserted p (origin_of g x) (class_of g x)) in
       let one = and_parts (is_concrete p.classes (class_of g x)) (may && kept) (root_class x l) in
       let two = and_parts may kept one.1 in
@@ -47,7 +51,8 @@ module _ (p : Problem) (root : State) (is : IsRoot p root) (g : Graph) (h : Plac
 
   pub class_known : (x : ℕ) → x < size_of g → (class_of g x < length p.classes) × ((class_at p.classes (class_of g x)).is_abstract ≡ false)
   class_known x l =
-      let parts = and_parts (nat_lt (class_of g x) (length p.classes)) (not (class_at p.classes (class_of g x)).is_abstract) (class_tests x l).0 in
+      let parts = and_parts (nat_lt (class_of g x) (length p.classes)) (not (class_at p.classes (class_of g x)).is_abstract)
+      (class_tests x l).0 in
       (ltb-true (class_of g x) (length p.classes) parts.0, not-true (class_at p.classes (class_of g x)).is_abstract parts.1)
 
   pub class_kept : (x k : ℕ) → x < size_of g → k < length p.classes
@@ -62,5 +67,6 @@ module _ (p : Problem) (root : State) (is : IsRoot p root) (g : Graph) (h : Plac
         subst (λ n. contains (admitted p o) n ≡ true) many
         (subst (λ count. contains count (nodes_at g h o) ≡ true) (is.counts o l) (c.counts o (subst (λ n. o < n) (sym is.many) l))));
     classes = λ x lx from. MayHaveClass-from_test p g (object_at p.objects o).name (object_at p.objects o).kind (class_of g x)
-        (subst (λ q. may_have_class p.classes (object_at p.objects q).name (object_at p.objects q).kind (class_of g x) ≡ true) from (class_tests x lx).1);
+        (subst (λ q. may_have_class p.classes (object_at p.objects q).name (object_at p.objects q).kind (class_of g x) ≡ true) from
+        (class_tests x lx).1);
   }

@@ -57,7 +57,8 @@ module _ (p : Problem) (s : State) where
   origin_is x l = ap (λ n. n.origin) (node_is x l)
 
   -- how many nodes have objects that pass
-  pub count_nodes : (q : ℕ → Bool) → count_below (size_of (graph_of p s)) (λ x. q (single_at s x)) ≡ count_below (length s.objects) (λ o. is_one s o && q o)
+  pub count_nodes : (q : ℕ → Bool) → count_below (size_of (graph_of p s)) (λ x. q (single_at s x)) ≡ count_below (length s.objects)
+      (λ o. is_one s o && q o)
   count_nodes q = ap (λ n. count_below n (λ x. q (single_at s x))) size_is ∙ count_passing (length s.objects) (is_one s) q
 
   abbrev edge_test : ℕ → ℕ → ℕ → Edge → Bool
@@ -75,7 +76,8 @@ module _ (p : Problem) (s : State) where
   ]
 
   pub edge_found : (r x y : ℕ) → has_edge (graph_of p s) r x y ≡ true
-      → (r < length p.references) × (x < size_of (graph_of p s)) × (y < size_of (graph_of p s)) × (fact p s r (single_at s x) (single_at s y) ≡ True)
+      → (r < length p.references) × (x < size_of (graph_of p s)) × (y < size_of (graph_of p s)) ×
+      (fact p s r (single_at s x) (single_at s y) ≡ True)
   edge_found r x y h =
       let n = length (singles s) in let same : n ≡ size_of (graph_of p s) = sym (length-map (singles s) (node_of p s)) in
       let one = joined_found (length p.references) (edge_test r x y) (λ q. reference_edges p s q n) h in
@@ -87,7 +89,8 @@ module _ (p : Problem) (s : State) where
         omega arith,
         omega arith,
         same_truth (fact p s r (single_at s x) (single_at s y)) True
-            (subst (λ r. is_edge p s r x y ≡ true) er (subst (λ x. is_edge p s one.0 x y ≡ true) ex (subst (λ y. is_edge p s one.0 two.0 y ≡ true) ey e.3))),
+            (subst (λ r. is_edge p s r x y ≡ true) er (subst (λ x. is_edge p s one.0 x y ≡ true) ex
+            (subst (λ y. is_edge p s one.0 two.0 y ≡ true) ey e.3))),
       )
 
   pub edge_made : (r x y : ℕ) → r < length p.references → x < size_of (graph_of p s) → y < size_of (graph_of p s)
@@ -107,7 +110,8 @@ module _ (p : Problem) (s : State) (f : IsFinal p s) where
 
   -- the class of a node is a candidate of its object
   class_there : (x : ℕ) → x < size_of (graph_of p s)
-      → (class_in p s (single_at s x) < length p.classes) × (contains_class (object_of s (single_at s x)).candidates (class_in p s (single_at s x)) ≡ true)
+      → (class_in p s (single_at s x) < length p.classes) × (contains_class (object_of s (single_at s x)).candidates
+      (class_in p s (single_at s x)) ≡ true)
   class_there x l =
       let a = node_single p s x l in let c = one_candidate p s f (single_at s x) a.0 a.1 in
       first-passes (length p.classes) (contains_class (object_of s (single_at s x)).candidates) c.0 c.1 c.2
@@ -133,7 +137,8 @@ module _ (p : Problem) (s : State) (f : IsFinal p s) where
         let m : ℕ = cond (is_one s o) 1 0 in
         subst (λ m. contains (object_of s o).count m ≡ true) (sym n)
         (and_from (nat_le (lo s o) m) (within m (hi s o)) (le-leb (lo s o) m (omega arith)) (within-from_le m m (hi s o) b (omega arith))));
-    classes = λ x l. subst (λ c. contains_class (object_of s (single_at s x)).candidates c ≡ true) (sym (class_is p s x l)) (class_there x l).1;
+    classes = λ x l. subst (λ c. contains_class (object_of s (single_at s x)).candidates c ≡ true) (sym (class_is p s x l))
+        (class_there x l).1;
   }
 
   -- each object of the problem is there in a state that is reached

@@ -19,4 +19,5 @@ pub joined-more : {A : Type 0} (before old new : List A) (k : ℕ) (f : ℕ → 
     → new ≡ before ++ joined (k + 1) f
 joined-more before old new k f so more =
     let next : suc k ≡ k + 1 = omega arith in
-    more ∙ ap (λ xs. xs ++ f k) so ∙ append_assoc before (joined k f) (f k) ∙ subst (λ n. before ++ joined (suc k) f ≡ before ++ joined n f) next refl
+    more ∙ ap (λ xs. xs ++ f k) so ∙ append_assoc before (joined k f) (f k) ∙ subst
+    (λ n. before ++ joined (suc k) f ≡ before ++ joined n f) next refl

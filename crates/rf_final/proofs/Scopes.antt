@@ -48,21 +48,25 @@ module _ (p : Problem) (s : State) (f : IsFinal p s) (reached : IsReached p s) (
   may x l =
       let some = any_candidate p s (single_at s x) (has_scope_class p bound.class) in
       let from = counts_origin p bound (object_of s (single_at s x)).origin in
-      ap₂ (λ a b. a && b) (may_be_of p s f reached x bound.class declared l) (ap (counts_origin p bound) (origin_is p s x l)) ∙ and_swap some from
+      ap₂ (λ a b. a && b) (may_be_of p s f reached x bound.class declared l) (ap (counts_origin p bound) (origin_is p s x l))
+      ∙ and_swap some from
 
   sure : (x : ℕ) → x < size_of (graph_of p s) → is_counted p (graph_of p s) bound x ≡ is_surely_counted p s z (single_at s x)
   sure x l =
       let each = each_candidate p s (single_at s x) (has_scope_class p bound.class) in
       let from = counts_origin p bound (object_of s (single_at s x)).origin in
-      ap₂ (λ a b. a && b) (surely_of p s f reached x bound.class declared l) (ap (counts_origin p bound) (origin_is p s x l)) ∙ and_swap each from
+      ap₂ (λ a b. a && b) (surely_of p s f reached x bound.class declared l) (ap (counts_origin p bound) (origin_is p s x l))
+      ∙ and_swap each from
 
   pub scope_low : scope_lo p z ≤ counted
   scope_low =
-      let count = count_below-same (size_of (graph_of p s)) (is_counted p (graph_of p s) bound) (λ x. may_be_counted p s z (single_at s x)) may ∙ count_nodes p s (may_be_counted p s z) in
+      let count = count_below-same (size_of (graph_of p s)) (is_counted p (graph_of p s) bound)
+      (λ x. may_be_counted p s z (single_at s x)) may ∙ count_nodes p s (may_be_counted p s z) in
       let total = count_below (length s.objects) (λ o. is_one s o && may_be_counted p s z o) in
       let ends : may_count p s z ≡ Some total = ends_singles (length s.objects) (may_be_counted p s z) (is_one s) (hi s) (upper_is p s f) in
       elim (cases_lt total (scope_lo p z)) [
-        | inl lt ↦ absurd (true≢false (quiet p s f (Under z) (lt-ltb z (length p.scopes) there) (less_than (may_count p s z) total (scope_lo p z) ends lt)))
+        | inl lt ↦ absurd (true≢false (quiet p s f (Under z) (lt-ltb z (length p.scopes) there)
+            (less_than (may_count p s z) total (scope_lo p z) ends lt)))
         | inr ge ↦ omega arith
       ]
 
@@ -76,12 +80,15 @@ module _ (p : Problem) (s : State) (f : IsFinal p s) (reached : IsReached p s) (
             | inl lt ↦ (let x = one-from_count_below (size_of (graph_of p s)) (is_counted p (graph_of p s) bound) (omega arith) in
                 let o = single_at s x.0 in let at = node_single p s x.0 x.1 in
                 let held : is_surely_counted p s z o ≡ true = sym (sure x.0 x.1) ∙ x.2 in
-                let fits = quiet p s f (ScopeTop z o) (and_from (nat_lt z (length p.scopes)) (is_object s o) (lt-ltb z (length p.scopes) there) (lt-ltb o (length s.objects) at.0))
+                let fits = quiet p s f (ScopeTop z o) (and_from (nat_lt z (length p.scopes)) (is_object s o)
+                (lt-ltb z (length p.scopes) there) (lt-ltb o (length s.objects) at.0))
                 (and_from (is_some (scope_hi p z)) (is_surely_counted p s z o) (rw e refl) held) in
                 let top = not_less p s f o (unwrap_or (scope_hi p z) 0 - sure_count_beside p s z o) at.0 at.1 fits in
-                let sum = sum_singles (length s.objects) (λ c. not (c == o) && is_surely_counted p s z c) (is_one s) (lo s) (lower_is p s f) in
+                let sum = sum_singles (length s.objects) (λ c. not (c == o) && is_surely_counted p s z c) (is_one s) (lo s)
+                (lower_is p s f) in
                 let rest = others (length s.objects) (is_one s) (is_surely_counted p s z) o at.0 at.1 held in
-                let count = count_below-same (size_of (graph_of p s)) (is_counted p (graph_of p s) bound) (λ x. is_surely_counted p s z (single_at s x)) sure
+                let count = count_below-same (size_of (graph_of p s)) (is_counted p (graph_of p s) bound)
+                (λ x. is_surely_counted p s z (single_at s x)) sure
                 ∙ count_nodes p s (is_surely_counted p s z) in
                 let most : unwrap_or (scope_hi p z) 0 ≡ m = rw e refl in
                 absurd (omega arith))

@@ -39,7 +39,8 @@ one_or_none l (Some e) i t z =
     elim (cases_lt e 1) [
       | inl lt ↦ inr (omega arith, ap Some (omega arith))
       | inr ge ↦ elim (cases_lt l 1) [
-        | inl none ↦ absurd (both_ways (l == 0 && e == 1) z (and_from (l == 0) (e == 1) (eq-eqb l 0 (omega arith)) (eq-eqb e 1 (omega arith))))
+        | inl none ↦ absurd (both_ways (l == 0 && e == 1) z (and_from (l == 0) (e == 1) (eq-eqb l 0 (omega arith))
+            (eq-eqb e 1 (omega arith))))
         | inr some ↦ inl (omega arith, ap Some (omega arith))
       ]
     ]
@@ -55,7 +56,8 @@ module _ (p : Problem) (s : State) (f : IsFinal p s) where
   pub quiet : (rule : Rule) → fits p s rule ≡ true → (instance_of p s rule).holds ≡ true
       → has_effect s (instance_of p s rule).effect ≡ false
   quiet rule r c = false_from_ne_true (has_effect s (instance_of p s rule).effect) (λ h. both_ways (fires p s rule) (f.saturated rule)
-      (and_from (fits p s rule) (is_ready s (instance_of p s rule)) r (and_from (instance_of p s rule).holds (has_effect s (instance_of p s rule).effect) c h)))
+      (and_from (fits p s rule) (is_ready s (instance_of p s rule)) r (and_from (instance_of p s rule).holds
+      (has_effect s (instance_of p s rule).effect) c h)))
 
   pub edge_there : (r a b : ℕ) → r < length p.references → a < length s.objects → b < length s.objects → is_edge p s r a b ≡ true
   edge_there r a b lr la lb = and_from (nat_lt r (length p.references)) (is_object s a && is_object s b) (lt-ltb r (length p.references) lr)
@@ -64,10 +66,12 @@ module _ (p : Problem) (s : State) (f : IsFinal p s) where
   pub counts : (o : ℕ) → o < length s.objects → IsOne s o ⊎ IsNone s o
   counts o l =
       let there = lt-ltb o (length s.objects) l in
-      let inside = true_from_ne_false (within (lo s o) (hi s o)) (λ e. true≢false (quiet (Empty o) there (not_from_false (within (lo s o) (hi s o)) e))) in
+      let inside = true_from_ne_false (within (lo s o) (hi s o)) (λ e. true≢false
+      (quiet (Empty o) there (not_from_false (within (lo s o) (hi s o)) e))) in
       let open_count = within 2 (hi s o) || (lo s o == 0 && ends_at 1 (hi s o)) in
       let no = or_parts (within 2 (hi s o)) (lo s o == 0 && ends_at 1 (hi s o))
-      (false_from_ne_true open_count (λ h. both_ways (allowed p s (Fresh o)) (f.decided (Fresh o)) (and_from (is_object s o) open_count there h))) in
+      (false_from_ne_true open_count (λ h. both_ways (allowed p s (Fresh o)) (f.decided (Fresh o))
+      (and_from (is_object s o) open_count there h))) in
       one_or_none (lo s o) (hi s o) inside no.0 no.1
 
   pub single_counts : (o : ℕ) → o < length s.objects → is_one s o ≡ true → IsOne s o
@@ -94,18 +98,21 @@ module _ (p : Problem) (s : State) (f : IsFinal p s) where
       let own = (object_of s o).candidates in let lost = classes_where p test in
       let is = (equal_is_same (difference own lost) own).0 (true_from_ne_false (is_same_set (difference own lost) own) (λ e.
       both_ways (not (is_same_set (difference own lost) own)) same (not_from_false (is_same_set (difference own lost) own) e))) in
-      let kept = and_parts (contains_class own c) (not (contains_class lost c)) (sym (contains-difference nat_cmp_total own lost c) ∙ (ap (λ set. contains_class set c) is ∙ there)) in
+      let kept = and_parts (contains_class own c) (not (contains_class lost c))
+      (sym (contains-difference nat_cmp_total own lost c) ∙ (ap (λ set. contains_class set c) is ∙ there)) in
       sym (contains-classes_where p test c l) ∙ not-true (contains_class lost c) kept.1
 
   -- a single object has a candidate
   pub has_candidate : (o : ℕ) → o < length s.objects → is_one s o ≡ true → any_candidate p s o (λ c. true) ≡ true
   has_candidate o l single = true_from_ne_false (any_candidate p s o (λ c. true)) (λ e.
-      let k = not_less o 0 l single (quiet (NoClass o) (lt-ltb o (length s.objects) l) (not_from_false (any_candidate p s o (λ c. true)) e)) in absurd (omega arith))
+      let k = not_less o 0 l single (quiet (NoClass o) (lt-ltb o (length s.objects) l)
+      (not_from_false (any_candidate p s o (λ c. true)) e)) in absurd (omega arith))
 
   pub one_candidate : (o : ℕ) → o < length s.objects → is_one s o ≡ true
       → (c : ℕ) × (c < length p.classes) × (contains_class (object_of s o).candidates c ≡ true)
   one_candidate o l single =
-      let r = one-from_some_below (length p.classes) (λ c. contains_class (object_of s o).candidates c && true) (has_candidate o l single) in
+      let r = one-from_some_below (length p.classes) (λ c. contains_class (object_of s o).candidates c && true)
+      (has_candidate o l single) in
       (r.0, r.1, (and_parts (contains_class (object_of s o).candidates r.0) true r.2).0)
 
   -- the candidates of a single object are all below a class, or none is

@@ -63,7 +63,8 @@ module _ (p : Problem) (s : State) (f : IsFinal p s) where
   settled : Follows p (side may (state_known p s)) (side must (state_known p s)) (IsTwin s)
   settled = record {
     classes = λ k x y lk t m. must-truth_of (all_candidates p s y k) (some_candidate p s y k)
-        ∙ some_each p s f y k lk t.1 t.2 (subst (λ x. some_candidate p s x k ≡ true) t.0 (sym (may-truth_of (all_candidates p s x k) (some_candidate p s x k)) ∙ m));
+        ∙ some_each p s f y k lk t.1 t.2 (subst (λ x. some_candidate p s x k ≡ true) t.0
+        (sym (may-truth_of (all_candidates p s x k) (some_candidate p s x k)) ∙ m));
     edges = λ r x y u v l tx ty m. ap must (edge_known r u v tx.1 ty.1) ∙ settled_fact r u v l (refl, tx.1, tx.2) (refl, ty.1, ty.2)
         (sym (ap may (edge_known r u v tx.1 ty.1)) ∙ subst (λ x. may ((state_known p s).edge r x v) ≡ true) tx.0
         (subst (λ y. may ((state_known p s).edge r x y) ≡ true) ty.0 m));
@@ -106,14 +107,17 @@ module _ (p : Problem) (s : State) (f : IsFinal p s) where
       let n = length p.predicates in let k = state_known p s in
       let has_to = predicate_true p.predicates n (side must k) (side may k) q t in
       let can = predicate_true p.predicates n (side may k) (side must k) q t in
-      must-truth_of has_to can ∙ predicates_carry_over p (IsTwin s) n (side may k) (side must k) (side must k) (side may k) settled settled_back
-      q t t (record { left = len; right = len; each = λ i k. (let r = l i 0 (omega arith) in (refl, r.0, r.1)) }) (sym (may-truth_of has_to can) ∙ m)
+      must-truth_of has_to can ∙ predicates_carry_over p (IsTwin s) n (side may k) (side must k) (side must k)
+      (side may k) settled settled_back
+      q t t (record { left = len; right = len; each = λ i k. (let r = l i 0 (omega arith) in (refl, r.0, r.1)) })
+      (sym (may-truth_of has_to can) ∙ m)
 
   module _ (reached : IsReached p s) where
     objects_single : (t : List ℕ) → All (λ x. x < size_of (graph_of p s)) t → AreSingle (map (single_at s) t)
     objects_single t l i d k =
         let lt : i < length t = (let e = length-map t (single_at s) in omega arith) in
-        subst (λ o. (o < length s.objects) × (is_one s o ≡ true)) (sym (get_or-map (single_at s) t i 0 d lt)) (node_single p s (get_or t i 0) (l i 0 lt))
+        subst (λ o. (o < length s.objects) × (is_one s o ≡ true)) (sym (get_or-map (single_at s) t i 0 d lt))
+        (node_single p s (get_or t i 0) (l i 0 lt))
 
     -- what is asserted of predicates is kept
     pub predicate_kept : (q : ℕ) (t : List ℕ) → q < length p.predicates → length t ≡ (predicate_at p.predicates q).arity
@@ -123,11 +127,13 @@ module _ (p : Problem) (s : State) (f : IsFinal p s) where
         let u : List ℕ = map (single_at s) t in
         let many : length u ≡ (predicate_at p.predicates q).arity = length-map t (single_at s) ∙ len in
         let at : AreSingle u = objects_single t l in
-        let called = and_from (nat_lt q (length p.predicates)) (length u == (predicate_at p.predicates q).arity) (lt-ltb q (length p.predicates) lq)
+        let called = and_from (nat_lt q (length p.predicates)) (length u == (predicate_at p.predicates q).arity)
+        (lt-ltb q (length p.predicates) lq)
         (eq-eqb (length u) (predicate_at p.predicates q).arity many) in
         let there = all_list (is_object s) u (λ i d k. lt-ltb (get_or u i d) (length s.objects) (at i d k).0) in
         let low = all_list (λ o. nat_le 1 (lo s o)) u (λ i d k. let r = at i d k in single_low p s f (get_or u i d) r.0 r.1) in
-        let same : map (origin_of (graph_of p s)) t ≡ origins_of s u = map_twice (single_at s) (λ o. (object_of s o).origin) (origin_of (graph_of p s)) t
+        let same : map (origin_of (graph_of p s)) t ≡ origins_of s u = map_twice (single_at s) (λ o. (object_of s o).origin)
+        (origin_of (graph_of p s)) t
         (λ i d k. origin_is p s (get_or t i d) (l i d k)) in
         let said : Truth = asserted p (Predicate q) (origins_of s u) in
         let none = false_from_ne_true (is_error (merge said (value p s q u))) (λ e.

@@ -38,7 +38,8 @@ use Rattle.rf_final.proofs.Values.{predicate_kept}
 is_within : (range : Count) (n : ℕ) → range.lo ≤ n → within n range.hi ≡ true → contains range n ≡ true
 is_within range n low high = and_from (nat_le range.lo n) (within n range.hi) (le-leb range.lo n low) high
 
-module _ (p : Problem) (s : State) (reached : IsReached p s) (f : IsFinal p s) (root : State) (is : IsRoot p root) (c : Has root (graph_of p s)) where
+module _ (p : Problem) (s : State) (reached : IsReached p s) (f : IsFinal p s) (root : State) (is : IsRoot p root)
+    (c : Has root (graph_of p s)) where
   abbrev g : Graph
   g = graph_of p s
 
@@ -48,7 +49,8 @@ module _ (p : Problem) (s : State) (reached : IsReached p s) (f : IsFinal p s) (
   fits : Fits p g
   fits = record {
     nodes = λ i d l. (let k : i < size_of g = l in let n = length-map (singles s) (node_of p s) in
-        let same : get_or g.nodes i d ≡ get_or g.nodes i no_node = get_or-map (node_of p s) (singles s) i 0 d (omega arith) ∙ sym (get_or-map (node_of p s) (singles s) i 0 no_node (omega arith)) in
+        let same : get_or g.nodes i d ≡ get_or g.nodes i no_node = get_or-map (node_of p s) (singles s) i 0 d (omega arith) ∙ sym
+        (get_or-map (node_of p s) (singles s) i 0 no_node (omega arith)) in
         subst (FitsNode p) (sym same) (node_fits i k));
     edges = subst (λ n. All (FitsEdge p n) g.edges) (sym (length-map (singles s) (node_of p s))) (edges_fit p s (length (singles s)));
     distinct = edges_distinct p s (length (singles s));
@@ -102,7 +104,8 @@ module _ (p : Problem) (s : State) (reached : IsReached p s) (f : IsFinal p s) (
     no_cycle = λ x l w. held_without_cycle p s f x w;
     objects = object_satisfied p root is g c.0 c.1;
     asserts = symbol_kept;
-    scopes = λ z l. is_within (scope_at p.scopes z).range (counted p s f reached z l) (scope_low p s f reached z l) (scope_high p s f reached z l);
+    scopes = λ z l. is_within (scope_at p.scopes z).range (counted p s f reached z l) (scope_low p s f reached z l)
+        (scope_high p s f reached z l);
   }
 
 pub final_satisfies : FinalSatisfies
