@@ -1,4 +1,5 @@
-//! Final states and their graphs: where no rule fires and no decision is allowed, the graph of the state satisfies.
+//! Final states and their graphs: where no rule fires and no decision is allowed, the graph of the state
+//! satisfies the problem.
 #![tactic(auto)]
 
 mod graph;
