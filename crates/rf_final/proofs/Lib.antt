@@ -8,3 +8,7 @@ mod Values
 mod Classes
 mod Counts
 mod Shape
+mod Scopes
+mod Edges
+mod Inputs
+mod Whole

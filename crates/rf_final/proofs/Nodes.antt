@@ -1,12 +1,11 @@
 -- A final state stands for its graph.
-use Rattle.std.proofs.Common.{◌≡◌, ℕ, ◌<◌, Bool, true, false, cond, if◌then◌else◌, ◌&&◌, ◌==◌, List, [], ◌∷◌, length, get_or, ◌⊎◌, refl, sym, ap, ◌∙◌, subst, inl, inr, arith, true≢false}
+use Rattle.std.proofs.Common.{◌≡◌, ℕ, ◌<◌, Bool, true, false, cond, ◌&&◌, ◌==◌, length, get_or, ◌⊎◌, refl, sym, ap, ◌∙◌, subst, inl, inr, arith, true≢false}
 use Rattle.std.specs.Prelude.{nat_le}
 use Rattle.std.specs.FinSet.{contains as contains_class}
 use Rattle.std.specs.List.{list_any}
 use Rattle.std.proofs.lemmas.Bool.{and_from, and_parts, or_cases, cases_Bool, false_from_ne_true, eqb-true, eq-eqb, le-leb}
 use Rattle.std.proofs.lemmas.List.{get_or-map, length-map}
 use Rattle.rf_finite.specs.Ends.{within}
-use Rattle.rf_finite.specs.Passing.{joined}
 use Rattle.rf_finite.specs.Range.{count_below}
 use Rattle.rf_finite.proofs.Ends.{within-from_le}
 use Rattle.rf_finite.proofs.Joined.{joined_found, joined_made}
@@ -42,7 +41,8 @@ module _ (p : Problem) (s : State) where
   node_single x l = let n = size_is in let r = at_passing (length s.objects) (is_one s) x (omega arith) in (r.0, r.1)
 
   pub node_of_single : (o : ℕ) → o < length s.objects → is_one s o ≡ true → (x : ℕ) × (x < size_of (graph_of p s)) × (single_at s x ≡ o)
-  node_of_single o l h = let n = size_is in let r = place_of (length s.objects) (is_one s) o l h in let m = r.0 in (count_below o (is_one s), omega arith, r.1)
+  node_of_single o l h = let n = size_is in let r = place_of (length s.objects) (is_one s) o l h in
+      let m = r.0 in (count_below o (is_one s), omega arith, r.1)
 
   pub same_object : (x y : ℕ) → x < size_of (graph_of p s) → y < size_of (graph_of p s) → single_at s x ≡ single_at s y → x ≡ y
   same_object x y lx ly e = let n = size_is in apart_passing (length s.objects) (is_one s) x y (omega arith) (omega arith) e
@@ -57,13 +57,15 @@ module _ (p : Problem) (s : State) where
   origin_is x l = ap (λ n. n.origin) (node_is x l)
 
   -- how many nodes have objects that pass
-  pub count_nodes : (q : ℕ → Bool) → count_below (size_of (graph_of p s)) (λ x. q (single_at s x)) ≡ count_below (length s.objects) (λ o. is_one s o && q o)
+  pub count_nodes : (q : ℕ → Bool) → count_below (size_of (graph_of p s)) (λ x. q (single_at s x)) ≡ count_below (length s.objects)
+      (λ o. is_one s o && q o)
   count_nodes q = ap (λ n. count_below n (λ x. q (single_at s x))) size_is ∙ count_passing (length s.objects) (is_one s) q
 
   abbrev edge_test : ℕ → ℕ → ℕ → Edge → Bool
   edge_test r x y e = e.reference == r && (e.from == x && e.to == y)
 
-  one_edge : (r x y q u v : ℕ) → list_any (edge_test r x y) (edge_if (is_edge p s q u v) q u v) ≡ true → (q ≡ r) × (u ≡ x) × (v ≡ y) × (is_edge p s q u v ≡ true)
+  one_edge : (r x y q u v : ℕ) → list_any (edge_test r x y) (edge_if (is_edge p s q u v) q u v) ≡ true
+      → (q ≡ r) × (u ≡ x) × (v ≡ y) × (is_edge p s q u v ≡ true)
   one_edge r x y q u v h = elim (cases_Bool (is_edge p s q u v)) [
     | inl e ↦ (let k = rw e at h in elim (or_cases (q == r && (u == x && v == y)) false k) [
       | inl t ↦ (let a = and_parts (q == r) (u == x && v == y) t in let b = and_parts (u == x) (v == y) a.1 in
@@ -74,7 +76,8 @@ module _ (p : Problem) (s : State) where
   ]
 
   pub edge_found : (r x y : ℕ) → has_edge (graph_of p s) r x y ≡ true
-      → (r < length p.references) × (x < size_of (graph_of p s)) × (y < size_of (graph_of p s)) × (fact p s r (single_at s x) (single_at s y) ≡ True)
+      → (r < length p.references) × (x < size_of (graph_of p s)) × (y < size_of (graph_of p s)) ×
+      (fact p s r (single_at s x) (single_at s y) ≡ True)
   edge_found r x y h =
       let n = length (singles s) in let same : n ≡ size_of (graph_of p s) = sym (length-map (singles s) (node_of p s)) in
       let one = joined_found (length p.references) (edge_test r x y) (λ q. reference_edges p s q n) h in
@@ -86,10 +89,12 @@ module _ (p : Problem) (s : State) where
         omega arith,
         omega arith,
         same_truth (fact p s r (single_at s x) (single_at s y)) True
-        (subst (λ r. is_edge p s r x y ≡ true) er (subst (λ x. is_edge p s one.0 x y ≡ true) ex (subst (λ y. is_edge p s one.0 two.0 y ≡ true) ey e.3))),
+            (subst (λ r. is_edge p s r x y ≡ true) er (subst (λ x. is_edge p s one.0 x y ≡ true) ex
+            (subst (λ y. is_edge p s one.0 two.0 y ≡ true) ey e.3))),
       )
 
-  pub edge_made : (r x y : ℕ) → r < length p.references → x < size_of (graph_of p s) → y < size_of (graph_of p s) → fact p s r (single_at s x) (single_at s y) ≡ True
+  pub edge_made : (r x y : ℕ) → r < length p.references → x < size_of (graph_of p s) → y < size_of (graph_of p s)
+      → fact p s r (single_at s x) (single_at s y) ≡ True
       → has_edge (graph_of p s) r x y ≡ true
   edge_made r x y lr lx ly t =
       let n = length (singles s) in let same : n ≡ size_of (graph_of p s) = sym (length-map (singles s) (node_of p s)) in
@@ -104,7 +109,9 @@ module _ (p : Problem) (s : State) (f : IsFinal p s) where
   nodes_are o l = count_nodes p s (λ k. k == o) ∙ count_only (length s.objects) (is_one s) o l
 
   -- the class of a node is a candidate of its object
-  class_there : (x : ℕ) → x < size_of (graph_of p s) → (class_in p s (single_at s x) < length p.classes) × (contains_class (object_of s (single_at s x)).candidates (class_in p s (single_at s x)) ≡ true)
+  class_there : (x : ℕ) → x < size_of (graph_of p s)
+      → (class_in p s (single_at s x) < length p.classes) × (contains_class (object_of s (single_at s x)).candidates
+      (class_in p s (single_at s x)) ≡ true)
   class_there x l =
       let a = node_single p s x l in let c = one_candidate p s f (single_at s x) a.0 a.1 in
       first-passes (length p.classes) (contains_class (object_of s (single_at s x)).candidates) c.0 c.1 c.2
@@ -130,7 +137,8 @@ module _ (p : Problem) (s : State) (f : IsFinal p s) where
         let m : ℕ = cond (is_one s o) 1 0 in
         subst (λ m. contains (object_of s o).count m ≡ true) (sym n)
         (and_from (nat_le (lo s o) m) (within m (hi s o)) (le-leb (lo s o) m (omega arith)) (within-from_le m m (hi s o) b (omega arith))));
-    classes = λ x l. subst (λ c. contains_class (object_of s (single_at s x)).candidates c ≡ true) (sym (class_is p s x l)) (class_there x l).1;
+    classes = λ x l. subst (λ c. contains_class (object_of s (single_at s x)).candidates c ≡ true) (sym (class_is p s x l))
+        (class_there x l).1;
   }
 
   -- each object of the problem is there in a state that is reached

@@ -1,13 +1,13 @@
 -- The graph of a final state has the shape that the problem asks for.
-use Rattle.std.proofs.Common.{◌≡◌, ℕ, zero, suc, ◌-◌, ◌≤◌, ◌<◌, Bool, true, false, cond, not, ◌&&◌, ◌||◌, ◌==◌, Option, Some, None, List, [], ◌∷◌, length, map, refl, sym, ap, ◌∙◌, subst, inl, inr, arith, true≢false}
+use Rattle.std.proofs.Common.{◌≡◌, ℕ, ◌-◌, ◌≤◌, ◌<◌, Bool, true, false, not, ◌&&◌, ◌||◌, ◌==◌, Option, Some, None, List, [], ◌∷◌, length, map, refl, sym, ap, ◌∙◌, subst, inl, inr, arith, true≢false}
 use Rattle.std.specs.Prelude.{is_some, nat_le, nat_lt, unwrap_or}
-use Rattle.std.proofs.lemmas.Bool.{and_parts, and_from, or_left, or_right, cases_Bool, cases_lt, not_from_false, false_from_ne_true, true_from_ne_false, both_ways, eqb-true, eq-eqb, leb-true, le-leb, lt-ltb}
+use Rattle.std.proofs.lemmas.Bool.{and_parts, and_from, or_left, or_right, cases_Bool, cases_lt, not_from_false, true_from_ne_false, both_ways, eqb-true, eq-eqb, le-leb, lt-ltb}
 use Rattle.rf_finite.specs.Ends.{within}
-use Rattle.rf_finite.specs.Range.{count_below, some_below, sum_below}
+use Rattle.rf_finite.specs.Range.{count_below, some_below}
 use Rattle.rf_finite.specs.Walks.{IsReachable, IsWalk}
 use Rattle.rf_finite.proofs.Lists.{list_any-from_one, one-from_list_any}
 use Rattle.rf_finite.proofs.Passing.{ends_singles, sum_singles}
-use Rattle.rf_finite.proofs.Range.{count_below-none, count_below-same, count_below-without, one-from_count_below, one-from_some_below, some_below-from_one}
+use Rattle.rf_finite.proofs.Range.{count_below-same, one-from_count_below, one-from_some_below, some_below-from_one}
 use Rattle.rf_finite.proofs.Walks.{walk_below-from_IsWalk}
 use Rattle.rf_values.specs.Truth as truth
 use Rattle.rf_values.specs.Truth.{merge}
@@ -26,7 +26,7 @@ use Rattle.rf_rules.specs.Containment.{has_possible, is_possible, leads, must_ho
 use Rattle.rf_rules.specs.Degrees.{may_sum, must_sum_beside}
 use Rattle.rf_rules.specs.Effects.{is_same_truth}
 use Rattle.rf_rules.specs.Rules.{is_edge, is_object}
-use Rattle.rf_rules.specs.Words.{hi, is_less, is_one, lo, max, may, min, must}
+use Rattle.rf_rules.specs.Words.{hi, is_one, lo, max, may, min, must}
 use Rattle.rf_rules.specs.declared.rule.Rule.TheVariants.{Acyclic, NoContainer, OneContainer, Room, TypeLow}
 use Rattle.rf_tree.specs.Saturated.{IsFinal}
 use Rattle.rf_final.specs.GraphOf.{graph_of, single_at}
@@ -46,23 +46,27 @@ module _ (p : Problem) (s : State) (f : IsFinal p s) where
       (not_from_false (is_same_truth (merge (s.added r a b) False) (s.added r a b)) (false_changes (s.added r a b) added))
 
   pub edge_ends : IsReached p s → (r x y : ℕ) → has_edge (graph_of p s) r x y ≡ true
-      → (is_below p.classes (class_of (graph_of p s) x) (reference_at p.references r).source ≡ true) × (is_below p.classes (class_of (graph_of p s) y) (reference_at p.references r).target ≡ true)
+      → (is_below p.classes (class_of (graph_of p s) x) (reference_at p.references r).source ≡ true) ×
+      (is_below p.classes (class_of (graph_of p s) y) (reference_at p.references r).target ≡ true)
   edge_ends reached r x y h =
       let e = edge_found p s r x y h in let a = single_at s x in let b = single_at s y in
-      let from = some_candidate p s a (reference_at p.references r).source in let to = some_candidate p s b (reference_at p.references r).target in
+      let from = some_candidate p s a (reference_at p.references r).source in
+      let to = some_candidate p s b (reference_at p.references r).target in
       let both = and_parts from to (fits_classes (from && to) (fact_parts p s r a b true (let t = e.3 in rw t refl)).classes) in (
         node_below p s f reached x (reference_at p.references r).source (p.references_fit.sources r no_reference e.0) e.1 both.0,
         node_below p s f reached y (reference_at p.references r).target (p.references_fit.targets r no_reference e.0) e.2 both.1,
       )
 
-  pub edge_opposite : (r q x y : ℕ) → has_edge (graph_of p s) r x y ≡ true → (reference_at p.references r).opposite ≡ Some q → has_edge (graph_of p s) q y x ≡ true
+  pub edge_opposite : (r q x y : ℕ) → has_edge (graph_of p s) r x y ≡ true → (reference_at p.references r).opposite ≡ Some q
+      → has_edge (graph_of p s) q y x ≡ true
   edge_opposite r q x y h o =
       let e = edge_found p s r x y h in let m = opposite p r q o in
       edge_made p s q y x m.there e.2 e.1 (sym (fact-mirrored p s r q (single_at s x) (single_at s y) o) ∙ e.3)
 
   -- how many edges a node has, counted over objects
   degree_is : (r x : ℕ) (test : Truth → Bool) → test True ≡ true → test False ≡ false → r < length p.references → x < size_of (graph_of p s)
-      → count_below (size_of (graph_of p s)) (has_edge (graph_of p s) r x) ≡ count_below (length s.objects) (λ o. is_one s o && test (fact p s r (single_at s x) o))
+      → count_below (size_of (graph_of p s)) (has_edge (graph_of p s) r x) ≡ count_below (length s.objects)
+      (λ o. is_one s o && test (fact p s r (single_at s x) o))
   degree_is r x test of_true of_false lr lx =
       count_below-same (size_of (graph_of p s)) (has_edge (graph_of p s) r x) (λ y. test (fact p s r (single_at s x) (single_at s y)))
       (λ y ly. elim (settled_node p s f r x y lr lx ly) [
@@ -71,7 +75,8 @@ module _ (p : Problem) (s : State) (f : IsFinal p s) where
       ])
       ∙ count_nodes p s (λ o. test (fact p s r (single_at s x) o))
 
-  pub degree_low : (r x : ℕ) → r < length p.references → x < size_of (graph_of p s) → is_below p.classes (class_of (graph_of p s) x) (reference_at p.references r).source ≡ true
+  pub degree_low : (r x : ℕ) → r < length p.references → x < size_of (graph_of p s)
+      → is_below p.classes (class_of (graph_of p s) x) (reference_at p.references r).source ≡ true
       → (reference_at p.references r).range.lo ≤ count_below (size_of (graph_of p s)) (has_edge (graph_of p s) r x)
   degree_low r x lr lx below =
       let a = single_at s x in let at = node_single p s x lx in
@@ -80,7 +85,8 @@ module _ (p : Problem) (s : State) (f : IsFinal p s) where
       let ends : may_sum p s r a ≡ Some total = ends_singles (length s.objects) (may p s r a) (is_one s) (hi s) (upper_is p s f) in
       elim (cases_lt total (min p r)) [
         | inl lt ↦ absurd (node_not_lost p s f x (λ c. is_below p.classes c (reference_at p.references r).source) lx below
-            (quiet p s f (TypeLow r a) (and_from (nat_lt r (length p.references)) (is_object s a) (lt-ltb r (length p.references) lr) (lt-ltb a (length s.objects) at.0))
+            (quiet p s f (TypeLow r a) (and_from (nat_lt r (length p.references)) (is_object s a) (lt-ltb r (length p.references) lr)
+            (lt-ltb a (length s.objects) at.0))
             (less_than (may_sum p s r a) total (min p r) ends lt)))
         | inr ge ↦ omega arith
       ]
@@ -110,17 +116,24 @@ module _ (p : Problem) (s : State) (f : IsFinal p s) where
             | inr ge ↦ le-leb d m ge
           ]
 
-  pub held_once : (r x q y z : ℕ) → is_containing p r ≡ true → is_containing p q ≡ true → has_edge (graph_of p s) r x z ≡ true → has_edge (graph_of p s) q y z ≡ true → (r ≡ q) × (x ≡ y)
+  pub held_once : (r x q y z : ℕ) → is_containing p r ≡ true → is_containing p q ≡ true → has_edge (graph_of p s) r x z ≡ true
+      → has_edge (graph_of p s) q y z ≡ true → (r ≡ q) × (x ≡ y)
   held_once r x q y z cr cq hr hq =
       let er = edge_found p s r x z hr in let eq = edge_found p s q y z hq in
       let a = single_at s x in let b = single_at s z in let c = single_at s y in
       let ata = node_single p s x er.1 in let atb = node_single p s z er.2 in let atc = node_single p s y eq.1 in
       let tr = er.3 in let tq = eq.3 in
       elim (cases_Bool (q == r && c == a)) [
-        | inl e ↦ (let parts = and_parts (q == r) (c == a) e in (sym (eqb-true q r parts.0), same_object p s x y er.1 eq.1 (sym (eqb-true c a parts.1))))
+        | inl e ↦ (let parts = and_parts (q == r) (c == a) e in (
+          sym (eqb-true q r parts.0),
+          same_object p s x y er.1 eq.1
+              (sym (eqb-true c a parts.1)),
+        ))
         | inr e ↦ absurd (not_added q c b tq (quiet p s f (OneContainer r a b q c)
-            (and_from (is_edge p s r a b) (is_edge p s q c b) (edge_there p s f r a b er.0 ata.0 atb.0) (edge_there p s f q c b eq.0 atc.0 atb.0))
-            (and_from (is_containing p r) (is_containing p q && (must p s r a b && (nat_le 1 (lo s a) && (not (q == r && c == a) && may p s q c b)))) cr
+            (and_from (is_edge p s r a b) (is_edge p s q c b) (edge_there p s f r a b er.0 ata.0 atb.0)
+            (edge_there p s f q c b eq.0 atc.0 atb.0))
+            (and_from (is_containing p r) (is_containing p q && (must p s r a b &&
+            (nat_le 1 (lo s a) && (not (q == r && c == a) && may p s q c b)))) cr
             (and_from (is_containing p q) (must p s r a b && (nat_le 1 (lo s a) && (not (q == r && c == a) && may p s q c b))) cq
             (and_from (must p s r a b) (nat_le 1 (lo s a) && (not (q == r && c == a) && may p s q c b)) (rw tr refl)
             (and_from (nat_le 1 (lo s a)) (not (q == r && c == a) && may p s q c b) (single_low p s f a ata.0 ata.1)
@@ -128,11 +141,13 @@ module _ (p : Problem) (s : State) (f : IsFinal p s) where
       ]
 
   pub held_somewhere : (z : ℕ) → z < size_of (graph_of p s) → is_contained_class p (class_of (graph_of p s) z) ≡ true
-      → (r : ℕ) × (x : ℕ) × (r < length p.references) × (x < size_of (graph_of p s)) × (is_containing p r ≡ true) × (has_edge (graph_of p s) r x z ≡ true)
+      → (r : ℕ) × (x : ℕ) × (r < length p.references) × (x < size_of (graph_of p s)) × (is_containing p r ≡ true) ×
+      (has_edge (graph_of p s) r x z ≡ true)
   held_somewhere z lz h =
       let b = single_at s z in let atb = node_single p s z lz in
       let some = true_from_ne_false (has_possible p s b) (λ e.
-      node_not_lost p s f z (is_contained_class p) lz h (quiet p s f (NoContainer b) (lt-ltb b (length s.objects) atb.0) (not_from_false (has_possible p s b) e))) in
+      node_not_lost p s f z (is_contained_class p) lz h (quiet p s f (NoContainer b) (lt-ltb b (length s.objects) atb.0)
+      (not_from_false (has_possible p s b) e))) in
       let q = one-from_some_below (length p.references) (λ q. some_below (length s.objects) (is_possible p s b q)) some in
       let c = one-from_some_below (length s.objects) (is_possible p s b q.0) q.2 in
       let one = and_parts (is_containing p q.0) (may p s q.0 c.0 b && within 1 (hi s c.0)) c.2 in
@@ -151,7 +166,8 @@ module _ (p : Problem) (s : State) (f : IsFinal p s) where
 
   -- a step of containment: its reference, and what is known of it
   contained_by : (x y : ℕ) → contains_in p (graph_of p s) x y ≡ true
-      → (r : ℕ) × (is_containing p r ≡ true) × (r < length p.references) × (x < size_of (graph_of p s)) × (y < size_of (graph_of p s)) × (fact p s r (single_at s x) (single_at s y) ≡ True)
+      → (r : ℕ) × (is_containing p r ≡ true) × (r < length p.references) × (x < size_of (graph_of p s)) × (y < size_of (graph_of p s)) ×
+      (fact p s r (single_at s x) (single_at s y) ≡ True)
   contained_by x y h =
       let e = one-from_list_any (λ (e : Edge). is_containing p e.reference && (e.from == x && e.to == y)) (graph_of p s).edges h in
       let parts = and_parts (is_containing p e.0.reference) (e.0.from == x && e.0.to == y) e.2 in
@@ -173,7 +189,8 @@ module _ (p : Problem) (s : State) (f : IsFinal p s) where
       let at = node_single p s c w.1 in
       (contain_step x c w.0, at.0, single_low p s f (single_at s c) at.0 at.1, contain_walk c cs y w.3)
 
-  not_closing : (r x y : ℕ) → is_containing p r ≡ true → r < length p.references → x < size_of (graph_of p s) → y < size_of (graph_of p s) → fact p s r (single_at s x) (single_at s y) ≡ True
+  not_closing : (r x y : ℕ) → is_containing p r ≡ true → r < length p.references → x < size_of (graph_of p s) → y < size_of (graph_of p s)
+      → fact p s r (single_at s x) (single_at s y) ≡ True
       → ((single_at s x == single_at s y && is_one s (single_at s x)) || leads p s (single_at s y) (single_at s x)) ≡ true → ⊥
   not_closing r x y cr lr lx ly t h =
       let a = single_at s x in let b = single_at s y in let ata = node_single p s x lx in let atb = node_single p s y ly in
@@ -184,11 +201,13 @@ module _ (p : Problem) (s : State) (f : IsFinal p s) where
   no_walk : (x : ℕ) (cs : List ℕ) → IsWalk (contains_in p (graph_of p s)) (λ y. true) (size_of (graph_of p s)) x cs x → ⊥
   no_walk x [] w =
       let r = contained_by x x w in let a = single_at s x in let at = node_single p s x r.3 in
-      not_closing r.0 x x r.1 r.2 r.3 r.4 r.5 (or_left (a == a && is_one s a) (leads p s a a) (and_from (a == a) (is_one s a) (eq-eqb a a refl) at.1))
+      not_closing r.0 x x r.1 r.2 r.3 r.4 r.5 (or_left (a == a && is_one s a) (leads p s a a)
+      (and_from (a == a) (is_one s a) (eq-eqb a a refl) at.1))
   no_walk x (c ∷ cs) w =
       let r = contained_by x c w.0 in let a = single_at s x in let b = single_at s c in
       not_closing r.0 x c r.1 r.2 r.3 r.4 r.5 (or_right (a == b && is_one s a) (leads p s b a)
-      (walk_below-from_IsWalk (must_hold p s) (λ o. nat_le 1 (lo s o)) (length s.objects) b (map (single_at s) cs) a (contain_walk c cs x w.3)))
+      (walk_below-from_IsWalk (must_hold p s) (λ o. nat_le 1 (lo s o)) (length s.objects) b (map (single_at s) cs) a
+      (contain_walk c cs x w.3)))
 
   pub held_without_cycle : (x : ℕ) → IsReachable (contains_in p (graph_of p s)) (λ y. true) (size_of (graph_of p s)) x x → ⊥
   held_without_cycle x w = no_walk x w.0 w.1

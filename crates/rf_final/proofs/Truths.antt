@@ -1,7 +1,7 @@
 -- Truths, and the parts of what is known of an edge.
-use Rattle.std.proofs.Common.{◌≡◌, ℕ, Bool, true, false, not, if◌then◌else◌, [], ◌∷◌, length, ◌⊎◌, refl, sym, ap, ◌∙◌, inl, inr, rules, true≢false}
-use Rattle.std.proofs.lemmas.Bool.{and_parts, not-true, both_ways}
-use Rattle.rf_values.specs.Truth.{keeps, may, merge, must, truth_of}
+use Rattle.std.proofs.Common.{◌≡◌, ℕ, Bool, true, false, if◌then◌else◌, [], ◌∷◌, ◌⊎◌, refl, sym, ◌∙◌, inl, inr, rules, true≢false}
+use Rattle.std.proofs.lemmas.Bool.{and_parts}
+use Rattle.rf_values.specs.Truth.{keeps, may, merge, must}
 use Rattle.rf_values.specs.declared.truth.Truth.{Truth}
 use Rattle.rf_values.specs.declared.truth.Truth.TheVariants.{True, False, Unknown, Error}
 use Rattle.rf_values.proofs.Kept.{keeps-merge}
@@ -9,7 +9,7 @@ use Rattle.rf_problem.specs.Asserted.{asserted}
 use Rattle.rf_problem.specs.Parts.{reference_at}
 use Rattle.rf_problem.specs.declared.problem.Problem.{Problem}
 use Rattle.rf_problem.specs.declared.symbol.Symbol.TheVariants.{Reference}
-use Rattle.rf_state.specs.State.{State, by_classes, fact, object_of, some_candidate, told, told_back}
+use Rattle.rf_state.specs.State.{State, by_classes, fact, object_of, told, told_back}
 use Rattle.rf_rules.specs.Effects.{is_same_truth}
 use Rattle.rf_rules.specs.Words.{is_error, is_unknown}
 
@@ -34,7 +34,8 @@ false_changes False k = absurd (true≢false (sym k))
 false_changes Error k = absurd (true≢false (sym k))
 
 -- a value that is settled, is so of a fact, and isn't merged into an error: the fact keeps what was asserted
-pub merged_kept : (v w : Truth) (holds : Bool) → (may w ≡ true → must w ≡ true) → keeps w holds ≡ true → is_error (merge v w) ≡ false → keeps v holds ≡ true
+pub merged_kept : (v w : Truth) (holds : Bool) → (may w ≡ true → must w ≡ true) → keeps w holds ≡ true → is_error (merge v w) ≡ false
+    → keeps v holds ≡ true
 merged_kept v Error holds settled kept none = absurd (true≢false (sym kept))
 merged_kept v Unknown holds settled kept none = absurd (true≢false (sym (settled refl)))
 merged_kept Unknown w holds settled kept none = refl

@@ -1,8 +1,8 @@
 -- In a final state what can hold of single objects has to, and its graph keeps what is asserted of predicates.
-use Rattle.std.proofs.Common.{◌≡◌, ℕ, suc, ◌<◌, Bool, true, false, if◌then◌else◌, not, ◌&&◌, ◌||◌, ◌==◌, List, [], ◌∷◌, length, get_or, map, All, refl, sym, ap, ap₂, ◌∙◌, subst, inl, inr, arith, true≢false}
+use Rattle.std.proofs.Common.{◌≡◌, ℕ, suc, ◌<◌, Bool, true, false, not, ◌&&◌, ◌||◌, ◌==◌, List, [], ◌∷◌, length, get_or, map, All, refl, sym, ap, ap₂, ◌∙◌, subst, inl, inr, arith, true≢false}
 use Rattle.std.specs.Prelude.{nat_le, nat_lt}
 use Rattle.std.specs.List.{list_all}
-use Rattle.std.proofs.lemmas.Bool.{and_parts, and_from, or_cases, not-true, not_from_false, false_from_ne_true, eqb-true, eqb-false, eq-eqb, ne_eqb, lt-ltb}
+use Rattle.std.proofs.lemmas.Bool.{and_from, or_cases, not-true, not_from_false, false_from_ne_true, eqb-true, eqb-false, eq-eqb, ne_eqb, lt-ltb}
 use Rattle.std.proofs.lemmas.List.{get_or-map, length-map}
 use Rattle.rf_finite.specs.Ends.{within}
 use Rattle.rf_values.specs.Truth.{keeps, may, merge, must}
@@ -49,7 +49,8 @@ module _ (p : Problem) (s : State) (f : IsFinal p s) where
   edge_known : (r a b : ℕ) → a < length s.objects → b < length s.objects → (state_known p s).edge r a b ≡ fact p s r a b
   edge_known r a b la lb = let there = lt-ltb a (length s.objects) la in let too = lt-ltb b (length s.objects) lb in rw (there, too) refl
 
-  settled_fact : (r a b : ℕ) → r < length p.references → IsTwin s a a → IsTwin s b b → may (fact p s r a b) ≡ true → must (fact p s r a b) ≡ true
+  settled_fact : (r a b : ℕ) → r < length p.references → IsTwin s a a → IsTwin s b b → may (fact p s r a b) ≡ true
+      → must (fact p s r a b) ≡ true
   settled_fact r a b l ta tb m = elim (fact_settled p s f r a b l ta.1 tb.1 ta.2 tb.2) [
     | inl e ↦ rw e refl
     | inr e ↦ absurd (true≢false (sym m ∙ ap may e))
@@ -62,7 +63,8 @@ module _ (p : Problem) (s : State) (f : IsFinal p s) where
   settled : Follows p (side may (state_known p s)) (side must (state_known p s)) (IsTwin s)
   settled = record {
     classes = λ k x y lk t m. must-truth_of (all_candidates p s y k) (some_candidate p s y k)
-        ∙ some_each p s f y k lk t.1 t.2 (subst (λ x. some_candidate p s x k ≡ true) t.0 (sym (may-truth_of (all_candidates p s x k) (some_candidate p s x k)) ∙ m));
+        ∙ some_each p s f y k lk t.1 t.2 (subst (λ x. some_candidate p s x k ≡ true) t.0
+        (sym (may-truth_of (all_candidates p s x k) (some_candidate p s x k)) ∙ m));
     edges = λ r x y u v l tx ty m. ap must (edge_known r u v tx.1 ty.1) ∙ settled_fact r u v l (refl, tx.1, tx.2) (refl, ty.1, ty.2)
         (sym (ap may (edge_known r u v tx.1 ty.1)) ∙ subst (λ x. may ((state_known p s).edge r x v) ≡ true) tx.0
         (subst (λ y. may ((state_known p s).edge r x y) ≡ true) ty.0 m));
@@ -99,31 +101,39 @@ module _ (p : Problem) (s : State) (f : IsFinal p s) where
   AreSingle t = All (λ o. (o < length s.objects) × (is_one s o ≡ true)) t
 
   -- the value of a predicate at single objects
-  settled_value : (q : ℕ) (t : List ℕ) → length t ≡ (predicate_at p.predicates q).arity → AreSingle t → may (value p s q t) ≡ true → must (value p s q t) ≡ true
+  settled_value : (q : ℕ) (t : List ℕ) → length t ≡ (predicate_at p.predicates q).arity → AreSingle t → may (value p s q t) ≡ true
+      → must (value p s q t) ≡ true
   settled_value q t len l m =
       let n = length p.predicates in let k = state_known p s in
-      let has_to = predicate_true p.predicates n (side must k) (side may k) q t in let can = predicate_true p.predicates n (side may k) (side must k) q t in
-      must-truth_of has_to can ∙ predicates_carry_over p (IsTwin s) n (side may k) (side must k) (side must k) (side may k) settled settled_back
-      q t t (record { left = len; right = len; each = λ i k. (let r = l i 0 (omega arith) in (refl, r.0, r.1)) }) (sym (may-truth_of has_to can) ∙ m)
+      let has_to = predicate_true p.predicates n (side must k) (side may k) q t in
+      let can = predicate_true p.predicates n (side may k) (side must k) q t in
+      must-truth_of has_to can ∙ predicates_carry_over p (IsTwin s) n (side may k) (side must k) (side must k)
+      (side may k) settled settled_back
+      q t t (record { left = len; right = len; each = λ i k. (let r = l i 0 (omega arith) in (refl, r.0, r.1)) })
+      (sym (may-truth_of has_to can) ∙ m)
 
   module _ (reached : IsReached p s) where
     objects_single : (t : List ℕ) → All (λ x. x < size_of (graph_of p s)) t → AreSingle (map (single_at s) t)
     objects_single t l i d k =
         let lt : i < length t = (let e = length-map t (single_at s) in omega arith) in
-        subst (λ o. (o < length s.objects) × (is_one s o ≡ true)) (sym (get_or-map (single_at s) t i 0 d lt)) (node_single p s (get_or t i 0) (l i 0 lt))
+        subst (λ o. (o < length s.objects) × (is_one s o ≡ true)) (sym (get_or-map (single_at s) t i 0 d lt))
+        (node_single p s (get_or t i 0) (l i 0 lt))
 
     -- what is asserted of predicates is kept
-    pub predicate_kept : (q : ℕ) (t : List ℕ) → q < length p.predicates → length t ≡ (predicate_at p.predicates q).arity → All (λ x. x < size_of (graph_of p s)) t
+    pub predicate_kept : (q : ℕ) (t : List ℕ) → q < length p.predicates → length t ≡ (predicate_at p.predicates q).arity
+        → All (λ x. x < size_of (graph_of p s)) t
         → keeps (asserted p (Predicate q) (map (origin_of (graph_of p s)) t)) (holds p (graph_of p s) (Predicate q) t) ≡ true
     predicate_kept q t lq len l =
         let u : List ℕ = map (single_at s) t in
         let many : length u ≡ (predicate_at p.predicates q).arity = length-map t (single_at s) ∙ len in
         let at : AreSingle u = objects_single t l in
-        let called = and_from (nat_lt q (length p.predicates)) (length u == (predicate_at p.predicates q).arity) (lt-ltb q (length p.predicates) lq)
+        let called = and_from (nat_lt q (length p.predicates)) (length u == (predicate_at p.predicates q).arity)
+        (lt-ltb q (length p.predicates) lq)
         (eq-eqb (length u) (predicate_at p.predicates q).arity many) in
         let there = all_list (is_object s) u (λ i d k. lt-ltb (get_or u i d) (length s.objects) (at i d k).0) in
         let low = all_list (λ o. nat_le 1 (lo s o)) u (λ i d k. let r = at i d k in single_low p s f (get_or u i d) r.0 r.1) in
-        let same : map (origin_of (graph_of p s)) t ≡ origins_of s u = map_twice (single_at s) (λ o. (object_of s o).origin) (origin_of (graph_of p s)) t
+        let same : map (origin_of (graph_of p s)) t ≡ origins_of s u = map_twice (single_at s) (λ o. (object_of s o).origin)
+        (origin_of (graph_of p s)) t
         (λ i d k. origin_is p s (get_or t i d) (l i d k)) in
         let said : Truth = asserted p (Predicate q) (origins_of s u) in
         let none = false_from_ne_true (is_error (merge said (value p s q u))) (λ e.

@@ -1,4 +1,3 @@
-use Rattle.std.proofs.Common.{arith}
 use Rattle.rf_final.proofs.Pieces.{single-there}
 use Rattle.rf_final.proofs.graph.nodes.Goals as goal
 
