@@ -1,12 +1,18 @@
 -- What holds of rules that are applied one after another.
-use Rattle.std.specs.Prelude.{◌≡◌, ◌<◌, true, false, Option}
+use Rattle.std.specs.Prelude.{◌≡◌, ◌<◌, ℕ, true, false, Option, List, length}
 use Rattle.std.specs.Option.{option_or}
 use Rattle.rf_problem.specs.declared.problem.Problem.{Problem}
 use Rattle.rf_state.specs.State.{State}
 use Rattle.rf_rules.specs.Rules.{after, fires, is_closing}
 use Rattle.rf_rules.specs.declared.rule.Rule.{Rule}
 use Rattle.rf_pending.specs.Families.{IsLeastOf, is_of_containment, is_of_degrees, is_of_predicates, is_of_scopes, is_of_types}
+use Rattle.rf_tree.specs.Lines.{CanStand}
+use Rattle.rf_tree.specs.Outcomes.{IsRightOutcome}
+use Rattle.rf_tree.specs.declared.line.Line.{Line}
+use Rattle.rf_tree.specs.declared.outcome.Outcome.{Outcome}
+use Rattle.rf_search.specs.Course.{IsCourse}
 use Rattle.rf_search.specs.Least.{IsLeast}
+use Rattle.rf_search.specs.Outcome.{IsOutcome}
 use Rattle.rf_search.specs.Rank.{rank}
 
 -- a rule that fires and is no closing leaves less to be narrowed; so rules can't be applied for ever
@@ -20,3 +26,21 @@ FamiliesAreInOrder =
     → IsLeastOf is_of_types p s types → IsLeastOf is_of_degrees p s degrees → IsLeastOf is_of_containment p s containment
     → IsLeastOf is_of_scopes p s scopes → IsLeastOf is_of_predicates p s predicates
     → IsLeast p s (option_or types (option_or degrees (option_or containment (option_or scopes predicates))))
+
+-- of each length a problem and a seed have at most one course
+abbrev pub CourseIsUnique : Type 0
+CourseIsUnique =
+    (p : Problem) (seed : ℕ) (lines other : List Line) → IsCourse p seed lines → IsCourse p seed other → length lines ≡ length other → lines ≡ other
+
+-- the lines of a course can stand
+abbrev pub CourseStands : Type 0
+CourseStands = (p : Problem) (seed : ℕ) (lines : List Line) → IsCourse p seed lines → CanStand p lines
+
+-- a problem, a seed and a budget have at most one outcome
+abbrev pub OutcomeIsUnique : Type 0
+OutcomeIsUnique =
+    (p : Problem) (seed budget : ℕ) (a b : Outcome) → IsOutcome p seed budget a → IsOutcome p seed budget b → a ≡ b
+
+-- an outcome is right: a graph satisfies, lines that refute are valid, and unfinished ones are open, with as many decisions as the budget
+abbrev pub OutcomeIsRight : Type 0
+OutcomeIsRight = (p : Problem) (seed budget : ℕ) (outcome : Outcome) → IsOutcome p seed budget outcome → IsRightOutcome p budget outcome
