@@ -2,3 +2,10 @@ pub mod SetLemmas
 pub mod RankLemmas
 pub mod FamilyLemmas
 pub mod StepLemmas
+pub mod EndLemmas
+pub mod CourseLemmas
+pub mod StackLemmas
+pub mod SearchLemmas
+pub mod ReachLemmas
+pub mod FinalLemmas
+pub mod RightLemmas

@@ -1,14 +1,19 @@
-//! The search for a graph: rules that narrow a state are applied until none fires.
+//! The search for a graph: rules that narrow a state are applied until none fires, and then a decision splits it in two.
 #![tactic(auto)]
 
 mod changed;
+mod generating;
+mod knowledge;
+mod later;
 mod laws;
 mod pending;
+mod searching;
 mod settling;
+mod sides;
+mod untried;
 
+pub use generating::{Search, generate};
 pub use laws::{families_law, narrowing_law};
 pub use pending::{Pending, least, touch};
-pub use settling::{settle, settle_pending};
-
-mod searching;
-pub use searching::{generate, search};
+pub use searching::search;
+pub use settling::settle;
