@@ -9,3 +9,4 @@ pub mod SearchLemmas
 pub mod ReachLemmas
 pub mod FinalLemmas
 pub mod RightLemmas
+pub mod SideLemmas

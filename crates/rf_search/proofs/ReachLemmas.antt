@@ -1,13 +1,14 @@
 -- The places that a course leaves are reached, and have no more objects than decisions were made beside those of the root.
-use Rattle.std.proofs.Common.{◌≡◌, ℕ, ◌+◌, ◌≤◌, Bool, true, false, not, Some, None, List, [], ◌∷◌, ◌++◌, length, All, refl, sym, ap, subst, ◌∙◌, arith}
+use Rattle.std.proofs.Common.{◌≡◌, ℕ, ◌+◌, ◌≤◌, Bool, true, false, not, Some, None, List, [], ◌∷◌, ◌++◌, length, refl, sym, ap, subst, ◌∙◌, arith}
 use Rattle.std.specs.Prelude.{slice_set}
 use Rattle.std.proofs.lemmas.List.{length-set}
 use Rattle.rf_problem.specs.declared.problem.Problem.{Problem}
-use Rattle.rf_state.specs.State.{IsRoot, State}
+use Rattle.rf_state.specs.State.{IsRoot, State, fresh_of}
 use Rattle.rf_state.specs.declared.object.Object.{Object}
 use Rattle.rf_rules.specs.Decisions.{allowed, side}
 use Rattle.rf_rules.specs.Effects.{after_effect}
 use Rattle.rf_rules.specs.Rules.{after, instance_of}
+use Rattle.rf_rules.specs.Words.{classes_below}
 use Rattle.rf_rules.specs.declared.decision.Decision.{Decision}
 use Rattle.rf_rules.specs.declared.decision.Decision.TheVariants.{Fresh, Kind, Ref}
 use Rattle.rf_rules.specs.declared.effect.Effect.{Effect}
@@ -34,14 +35,14 @@ length-one_more : (xs : List Object) (x : Object) → length (xs ++ x ∷ []) �
 length-one_more [] x = refl
 length-one_more (y ∷ ys) x = let r = length-one_more ys x in omega arith
 
+pub fresh-objects : (s : State) (o : ℕ) → length (fresh_of s o).objects ≡ length s.objects + 1
+fresh-objects s o = length-one_more (slice_set s.objects o _) _ ∙ ap (λ (n : ℕ). n + 1) (length-set s.objects o _)
+
 side-objects : (p : Problem) (s : State) (d : Decision) (first : Bool) → length (side p s d first).objects ≤ length s.objects + 1
-side-objects p s (Fresh o) true =
-    let e = length-one_more (slice_set s.objects o _) _ in
-    let f = length-set s.objects o _ in
-    omega arith
+side-objects p s (Fresh o) true = let e = fresh-objects s o in omega arith
 side-objects p s (Fresh o) false = let e = effect-objects s (AtMost o 0) in omega arith
-side-objects p s (Kind o c) true = let e = effect-objects s (Keep o _) in omega arith
-side-objects p s (Kind o c) false = let e = effect-objects s (Lose o _) in omega arith
+side-objects p s (Kind o c) true = let e = effect-objects s (Keep o (classes_below p c)) in omega arith
+side-objects p s (Kind o c) false = let e = effect-objects s (Lose o (classes_below p c)) in omega arith
 side-objects p s (Ref r a b) true = omega arith
 side-objects p s (Ref r a b) false = omega arith
 
@@ -52,13 +53,14 @@ pub record IsOnCourse (p : Problem) (made : ℕ) (s : State) : Type 0 where
 
 -- each of these places is
 abbrev pub AreOnCourse : Problem → ℕ → List Place → Type 0
-AreOnCourse p made places = All (λ (x : Place). IsOnCourse p made x.state) places
+AreOnCourse p made [] = Unit {0}
+AreOnCourse p made (x ∷ places) = IsOnCourse p made x.state × AreOnCourse p made places
 
 later : (p : Problem) (made more : ℕ) (s : State) → made ≤ more → IsOnCourse p made s → IsOnCourse p more s
 later p made more s l h = record { reached = h.reached; small = (let k = h.small in omega arith) }
 
 all-later : (p : Problem) (made more : ℕ) (places : List Place) → made ≤ more → AreOnCourse p made places → AreOnCourse p more places
-all-later p made more [] l h = h
+all-later p made more [] l h = tt
 all-later p made more (x ∷ places) l h = (later p made more x.state l h.0, all-later p made more places l h.1)
 
 after-on_course : (p : Problem) (made : ℕ) (s : State) (rule : Rule) → IsOnCourse p made s → (h : IsReached p (after p s rule)) → IsOnCourse p made (after p s rule)
@@ -75,15 +77,19 @@ side-on_course p made s d first at ok = record {
 line-on_course : (p : Problem) (seed k made : ℕ) (x : Place) (line : Line) (rest : List Place) → IsNext p seed x.state k line → IsOnCourse p made x.state
     → AreOnCourse p made rest → AreOnCourse p (made + decisions_in (line ∷ [])) (places_after p x line ++ rest)
 line-on_course p seed k made x (Step rule) rest next at all =
-    (after-on_course p made x.state rule at (by_rule x.state rule at.reached next.0.passes next.1), all)
+    all-later p made (made + 0) (record { state = after p x.state rule; way = x.way } ∷ rest) (omega arith)
+      (after-on_course p made x.state rule at (by_rule x.state rule at.reached next.0.passes next.1), all)
 line-on_course p seed k made x (Decide d first) rest next at all =
     let ok : allowed p x.state d ≡ true = chosen_allowed p x.state (word seed k) d first next.1 in
-    (side-on_course p made x.state d first at ok, side-on_course p made x.state d (not first) at ok, all-later p made (made + 1) rest (omega arith) all)
-line-on_course p seed k made x (Close rule) rest next at all = all
+    (
+      side-on_course p made x.state d first at ok,
+      (side-on_course p made x.state d (not first) at ok, all-later p made (made + 1) rest (omega arith) all),
+    )
+line-on_course p seed k made x (Close rule) rest next at all = all-later p made (made + 0) rest (omega arith) all
 
 pub Leads-on_course : (p : Problem) (seed k made : ℕ) (lines : List Line) (places left : List Place) → Leads p seed k lines places left
     → AreOnCourse p made places → AreOnCourse p (made + decisions_in lines) left
-Leads-on_course p seed k made [] places left h all = subst (AreOnCourse p made) h all
+Leads-on_course p seed k made [] places left h all = all-later p made (made + 0) left (omega arith) (subst (AreOnCourse p made) h all)
 Leads-on_course p seed k made (line ∷ lines) [] left h all = absurd h
 Leads-on_course p seed k made (line ∷ lines) (x ∷ places) left h all =
     let m = made + decisions_in (line ∷ []) in

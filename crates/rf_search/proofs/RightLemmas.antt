@@ -1,5 +1,5 @@
 -- What a search ends with is right.
-use Rattle.std.proofs.Common.{◌≡◌, ℕ, true, false, Some, List, [], ◌∷◌, ◌++◌, refl, sym, subst, ◌∙◌}
+use Rattle.std.proofs.Common.{◌≡◌, ℕ, true, false, Some, List, [], ◌∷◌, ◌++◌, refl, sym, subst, arith}
 use Rattle.rf_problem.specs.declared.problem.Problem.{Problem}
 use Rattle.rf_graph.specs.Violations.{Sat}
 use Rattle.rf_graph.specs.declared.graph.Graph.{Graph}

@@ -4,7 +4,6 @@
 mod changed;
 mod generating;
 mod knowledge;
-mod later;
 mod laws;
 mod pending;
 mod searching;

@@ -8,11 +8,11 @@ ghost use Rattle.rf_search.specs.Outcome.{Ends};
 ghost use Rattle.rf_search.specs.Stack.{IsRooted};
 
 use crate::knowledge::Knowledge;
-use crate::later::graph_of;
 use crate::settling::settle_known;
 use crate::sides::{go_back, go_on};
 use crate::untried::Untried;
 use rf_decide::Words;
+use rf_final::graph_of;
 use rf_text::Items;
 use rf_tree::{Line, Outcome};
 use rf_vstate::Versions;
