@@ -10,3 +10,4 @@ pub mod ReachLemmas
 pub mod FinalLemmas
 pub mod RightLemmas
 pub mod SideLemmas
+pub mod SizeLemmas
