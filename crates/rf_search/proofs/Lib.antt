@@ -11,3 +11,4 @@ pub mod FinalLemmas
 pub mod RightLemmas
 pub mod SideLemmas
 pub mod SizeLemmas
+pub mod OutcomeLemmas
