@@ -42,7 +42,7 @@ next_unique p seed s k (Decide d f) (Step b) ha hb = absurd (ha.0 b hb.0.passes)
 next_unique p seed s k (Decide d f) (Close b) ha hb = absurd (ha.0 b hb.0.passes)
 next_unique p seed s k (Decide d f) (Decide e g) ha hb =
     let both : Some (d, f) ≡ Some (e, g) = sym ha.1 ∙ hb.1 in
-    let pair : (d, f) ≡ (e, g) = cc in
+    let pair : ◌≡◌ {A = Decision × Bool} (d, f) (e, g) = cc in
     λ i. Decide (pair i).0 (pair i).1
 
 -- more lines after those that led to these places, k decisions having been made there
