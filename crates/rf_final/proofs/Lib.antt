@@ -11,4 +11,4 @@ mod Shape
 mod Scopes
 mod Edges
 mod Inputs
-mod Whole
+pub mod Whole

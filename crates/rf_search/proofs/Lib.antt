@@ -2,3 +2,12 @@ pub mod SetLemmas
 pub mod RankLemmas
 pub mod FamilyLemmas
 pub mod StepLemmas
+pub mod EndLemmas
+pub mod CourseLemmas
+pub mod StackLemmas
+pub mod SearchLemmas
+pub mod ReachLemmas
+pub mod RightLemmas
+pub mod SideLemmas
+pub mod SizeLemmas
+pub mod OutcomeLemmas

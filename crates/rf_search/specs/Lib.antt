@@ -8,3 +8,6 @@ pub mod Laws
 pub mod Pending
 -- what only the contracts of private functions cite
 pub mod Changed
+pub mod Knowledge
+pub mod Sides
+pub mod Stack

@@ -1,6 +1,6 @@
-//! What holds of rules that are applied one after another, each law as the contract of a function that does nothing.
+//! What holds of rules that are applied one after another and of searches, each law as the contract of a function that does nothing.
 
-ghost use Rattle.rf_search.specs.Laws.{FamiliesAreInOrder, RuleNarrows};
+ghost use Rattle.rf_search.specs.Laws.{CoursesArePrefixes, CoursesStand, FamiliesAreInOrder, OutcomeIsRight, OutcomeIsUnique, RuleNarrows};
 
 /// A rule that fires and is no closing leaves less to be narrowed.
 pub fn narrowing_law()
@@ -10,4 +10,20 @@ pub fn narrowing_law()
 /// The least rule that fires is that of the first family that has one.
 pub fn families_law()
     ensures { FamiliesAreInOrder }
+{}
+
+/// The lines of a course can stand, and of two courses of a problem and a seed one is a prefix of the other.
+pub fn course_law()
+    ensures stand { CoursesStand }
+    ensures prefix { CoursesArePrefixes }
+{}
+
+/// A problem, a seed and a budget have at most one outcome.
+pub fn outcome_law()
+    ensures { OutcomeIsUnique }
+{}
+
+/// An outcome is right.
+pub fn right_law()
+    ensures { OutcomeIsRight }
 {}

@@ -1,14 +1,18 @@
-//! The search for a graph: rules that narrow a state are applied until none fires.
+//! The search for a graph: rules that narrow a state are applied until none fires, and then a decision splits it in two.
 #![tactic(auto)]
 
 mod changed;
+mod generating;
+mod knowledge;
 mod laws;
 mod pending;
-mod settling;
-
-pub use laws::{families_law, narrowing_law};
-pub use pending::{Pending, least, touch};
-pub use settling::{settle, settle_pending};
-
 mod searching;
-pub use searching::{generate, search};
+mod settling;
+mod sides;
+mod untried;
+
+pub use generating::{Search, generate};
+pub use laws::{course_law, families_law, narrowing_law, outcome_law, right_law};
+pub use pending::{Pending, least, touch};
+pub use searching::search;
+pub use settling::settle;

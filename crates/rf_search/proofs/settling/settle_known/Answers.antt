@@ -9,7 +9,7 @@ use Rattle.rf_search.specs.Rank.{rank}
 use Rattle.rf_search.specs.Settled.{Steps}
 use Rattle.rf_search.proofs.RankLemmas.{rule_narrows}
 use Rattle.rf_search.proofs.StepLemmas.{Steps-more}
-use Rattle.rf_search.proofs.settling.settle_pending.Goals as goal
+use Rattle.rf_search.proofs.settling.settle_known.Goals as goal
 
 pub loop-rule-smaller : goal.loop-rule-smaller
 loop-rule-smaller g c =
@@ -40,6 +40,6 @@ loop-rule-preserved g c =
     record {
       problem = c.in_ok-step.ensures.problem ∙ c.loop-rule.invariant.problem;
       kept = c.in_ok-step.ensures.kept ∙ c.loop-rule.invariant.kept;
-      covers = c.in_ok-step.ensures.covers;
+      known = c.in_ok-step.ensures.known;
       steps = (first.0 ++ one, items, subst (Steps q start (first.0 ++ one)) (sym reached) more);
     }

@@ -1,0 +1,48 @@
+//! The search for a graph of a problem.
+
+ghost use Rattle.std.specs.Prelude.{◌≡◌, ◌≤◌, IfOk};
+ghost use Rattle.rf_bounds.specs.declared.TheConstants.{MOST_DECISIONS};
+ghost use Rattle.rf_tree.specs.Outcomes.{IsRightOutcome};
+ghost use Rattle.rf_search.specs.Outcome.{IsOutcome};
+
+use crate::search;
+use rf_problem::Problem;
+use rf_tree::{Outcome, Solver};
+use rf_vstate::Versioned;
+use std::alloc::{AllocError, Global};
+
+/// Searches for a graph of a problem by a seed, with at most `budget` decisions.
+pub fn generate(
+    alloc: Global,
+    problem: &Problem,
+    seed: u64,
+    budget: u32,
+) -> Result<Outcome, AllocError>
+    requires some { 1 ≤ budget }
+    requires most { budget ≤ MOST_DECISIONS }
+    ensures outcome { IfOk result (IsOutcome problem.now seed budget) }
+    ensures right { IfOk result (IsRightOutcome problem.now budget) }
+{
+    let mut state = Versioned::root(alloc, problem)?;
+    search(alloc, &mut state, seed, budget)
+}
+
+/// Who searches by `generate`.
+#[derive(Clone, Copy, Debug)]
+pub struct Search;
+
+impl Solver for Search {
+    ghost use Rattle.rf_search.specs.Outcome.{IsOutcome};
+
+    ghost ends = { IsOutcome };
+
+    fn solve(
+        &mut self,
+        alloc: Global,
+        problem: &Problem,
+        seed: u64,
+        budget: u32,
+    ) -> Result<Outcome, AllocError> {
+        generate(alloc, problem, seed, budget)
+    }
+}
