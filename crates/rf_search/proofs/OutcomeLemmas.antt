@@ -181,7 +181,7 @@ closing-stops : (p : Problem) (seed k : ℕ) (x : Place) (rule : Rule) (line : L
 closing-stops p seed k x rule line more y left closed h =
     let e : line ≡ Close rule = next_unique p seed x.state k line (Close rule) h.0 closed in
     nowhere p seed (k + decisions_in (Close rule ∷ [])) more y left
-      (subst (λ (z : Line). Leads p seed (k + decisions_in (z ∷ [])) more (places_after p x z ++ []) (y ∷ left)) e h.1)
+    (subst (λ (z : Line). Leads p seed (k + decisions_in (z ∷ [])) more (places_after p x z ++ []) (y ∷ left)) e h.1)
 
 refuted-end : (p : Problem) (seed budget : ℕ) (root : State) (lines : List Line) (s : State) (way : List State)
     → (h : EndsRefuted p seed budget root lines s way) → IsEnd p seed budget root h.before (record { state = s; way = way }) []
@@ -189,7 +189,7 @@ refuted-end p seed budget root lines s way h = record {
   leads = h.leads;
   few = h.few;
   stops = λ line more y left leads few.
-    closing-stops p seed (decisions_in h.before) (record { state = s; way = way }) h.rule line more y left h.closed leads;
+      closing-stops p seed (decisions_in h.before) (record { state = s; way = way }) h.rule line more y left h.closed leads;
 }
 
 unfinished-end : (p : Problem) (seed budget : ℕ) (root : State) (lines : List Line) (s : State) (way : List State)
@@ -198,7 +198,7 @@ unfinished-end p seed budget root lines s way h = record {
   leads = h.leads;
   few = (let e = h.spent in omega arith);
   stops = λ line more y left leads few.
-    too_many line more h.spent few (only_decides p seed s (decisions_in lines) line h.saturated leads.0);
+      too_many line more h.spent few (only_decides p seed s (decisions_in lines) line h.saturated leads.0);
 }
   where
     too_many : (line : Line) (more : List Line) → decisions_in lines ≡ budget → decisions_in lines + decisions_in (line ∷ more) ≤ budget
@@ -244,4 +244,4 @@ module _ (p : Problem) (seed budget : ℕ) (root : State) where
 pub outcome_is_unique : OutcomeIsUnique
 outcome_is_unique p seed budget a b h k =
     same_outcome p seed budget h.root a b h.state k.state h.way k.way h.ends
-      (subst (λ (r : State). Ends p seed budget r b k.state k.way) (root-unique p k.root h.root k.is_root h.is_root) k.ends)
+    (subst (λ (r : State). Ends p seed budget r b k.state k.way) (root-unique p k.root h.root k.is_root h.is_root) k.ends)

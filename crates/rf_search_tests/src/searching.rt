@@ -70,7 +70,8 @@ fn the_state_is_edited_and_gone_back_to(rt: HostRuntime) {
 #[test]
 fn without_memory_for_values_the_state_is_as_before(rt: HostRuntime) {
     let alloc = rt.alloc();
-    let text = "class A { A[] next } default !next(*, *). next(a, b). next(b, c). next(c, a). error e(x) <-> next+(x, x).";
+    let text =
+        "class A { A[] next } default !next(*, *). next(a, b). next(b, c). next(c, a). error e(x) <-> next+(x, x).";
     let problem = read(&rt, alloc, text);
     let Ok(mut noted) = Noted::root(alloc, &problem, true, 64) else {
         panic!(rt; "there is memory for the root");
