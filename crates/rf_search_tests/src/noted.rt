@@ -29,6 +29,10 @@ pub struct Noted<'p> {
 }
 
 impl<'p> Noted<'p> {
+    ghost use Rattle.std.specs.Prelude.{◌≡◌, ◌<◌, ◌^◌, ◌∷◌, [], IfOk};
+    ghost use Rattle.rf_state.specs.State.{IsRoot};
+    ghost use Rattle.rf_vstate.specs.Meaning.{current, kept};
+
     /// The root of a problem, with room for so many calls.
     pub fn root(
         alloc: Global,
@@ -37,9 +41,9 @@ impl<'p> Noted<'p> {
         room: usize,
     ) -> Result<Noted<'p>, AllocError>
         requires { room < 2 ^ 16 }
-        ensures problem { IfOk result (λ n. Facts.problem n ≡ problem.now) }
-        ensures root { IfOk result (λ n. IsRoot problem.now (Facts.state n)) }
-        ensures kept { IfOk result (λ n. Edit.kept n ≡ Facts.state n ∷ []) }
+        ensures problem { IfOk result (λ n. n.inner.problem.now ≡ problem.now) }
+        ensures root { IfOk result (λ n. IsRoot problem.now (current n.inner)) }
+        ensures kept { IfOk result (λ n. kept n.inner ≡ current n.inner ∷ []) }
     {
         let inner = Versioned::root(alloc, problem)?;
         let calls = Vec::with_capacity(alloc, room)?;
@@ -61,9 +65,11 @@ impl<'p> Noted<'p> {
 }
 
 impl Facts for Noted<'_> {
-    ghost problem = { λ n. Versioned.Facts.problem n.inner };
+    ghost use Rattle.rf_vstate.specs.Meaning.{current};
 
-    ghost state = { λ n. Versioned.Facts.state n.inner };
+    ghost problem = { λ n. n.inner.problem.now };
+
+    ghost state = { λ n. current n.inner };
 
     fn problem(&self) -> &Problem {
         self.inner.problem()
@@ -112,7 +118,9 @@ impl View for Noted<'_> {
 }
 
 impl Edit for Noted<'_> {
-    ghost kept = { λ n. Versioned.Edit.kept n.inner };
+    ghost use Rattle.rf_vstate.specs.Meaning.{kept};
+
+    ghost kept = { λ n. kept n.inner };
 
     fn merge(&mut self, alloc: Global, r: u32, a: u64, b: u64, v: Truth) -> Result<(), AllocError> {
         self.note(Call::Merge);
