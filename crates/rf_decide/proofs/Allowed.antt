@@ -1,16 +1,14 @@
 -- Each decision of a group is allowed, and where there is none no decision is.
-use Rattle.std.proofs.Common.{◌≡◌, ◌↔◌, ℕ, zero, suc, ◌+◌, ◌<◌, Bool, true, false, ◌&&◌, Option, None, Some, List, [], ◌∷◌, ◌++◌, length, All, Contains, refl, sym, ap, ◌∙◌, subst, inl, inr, arith, true≢false}
+use Rattle.std.proofs.Common.{◌≡◌, ℕ, ◌<◌, true, [], length, All, inl, inr}
 use Rattle.std.proofs.lemmas.Bool.{and_parts, cases_Bool, cases_eq, ltb-true, ne_eqb}
-use Rattle.std.proofs.lemmas.List.{length-append}
 use Rattle.std.proofs.lemmas.List.Elements.{All-cons, All-nil}
-use Rattle.rf_finite.specs.Passing.{joined}
 use Rattle.rf_finite.proofs.Joined.{all_joined}
 use Rattle.rf_problem.specs.declared.problem.Problem.{Problem}
 use Rattle.rf_state.specs.State.{State}
 use Rattle.rf_rules.specs.Decisions.{allowed, fits, is_open}
 use Rattle.rf_rules.specs.declared.decision.Decision.{Decision}
 use Rattle.rf_rules.specs.declared.decision.Decision.TheVariants.{Fresh, Kind, Ref}
-use Rattle.rf_decide.specs.Choice.{allowed_edges, allowed_fresh, allowed_kinds, edges_from, edges_of, group, group_number, if_allowed, kinds_of, members}
+use Rattle.rf_decide.specs.Choice.{edges_from, edges_of, group, if_allowed, kinds_of}
 
 module _ (p : Problem) (s : State) where
   abbrev pub IsAllowed : Decision → Type 0

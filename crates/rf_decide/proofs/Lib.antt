@@ -1,3 +1,5 @@
 pub mod Joining
 pub mod Allowed
 pub mod Chosen
+pub mod SameLists
+pub mod SizeLemmas

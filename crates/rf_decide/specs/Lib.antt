@@ -2,3 +2,4 @@
 pub mod Choice
 pub mod Words
 pub mod Laws
+pub mod Counted

@@ -12,8 +12,8 @@ use crate::rows::FreshObjects;
 use rf_rules::Decision;
 use rf_state::Facts;
 
-// Whether the first side of a decision leads.
-fn leads<F: Facts>(view: &F, decision: &Decision, word: u32) -> bool
+/// Whether the first side of a decision leads.
+pub fn leads<F: Facts>(view: &F, decision: &Decision, word: u32) -> bool
     requires { allowed (F.problem view.now) (F.state view.now) decision.now ≡ true }
     ensures { result ≡ leads (F.state view.now) decision.now word }
 {

@@ -1,9 +1,9 @@
 -- Whatever nodes a reached state has, the root has.
-use Rattle.std.proofs.Common.{◌≡◌, ◌≢◌, ℕ, suc, ◌+◌, ◌-◌, ◌≤◌, ◌<◌, Bool, true, false, min, not, ◌&&◌, ◌||◌, ◌==◌, if◌then◌else◌, Option, Some, None, length, refl, sym, ap, ◌∙◌, subst, inl, inr, arith}
+use Rattle.std.proofs.Common.{◌≡◌, ◌≢◌, ℕ, suc, ◌+◌, ◌-◌, ◌<◌, Bool, true, false, min, ◌&&◌, ◌||◌, ◌==◌, Option, Some, None, length, refl, sym, ap, ◌∙◌, subst, inl, inr, arith}
 use Rattle.std.specs.Prelude.{nat_le}
 use Rattle.std.specs.Cmp.{nat_cmp_total}
-use Rattle.std.specs.FinSet.{contains as contains_class, contains-difference, contains-intersection, difference, intersection}
-use Rattle.std.proofs.lemmas.Bool.{and_parts, and_from, cases_Bool, cases_eq, cases_lt, eq-eqb, eqb-true, eqb-false, leb-true, le-leb, ltb-true, ne_eqb, or_cases}
+use Rattle.std.specs.FinSet.{contains as contains_class, contains-intersection, difference, intersection}
+use Rattle.std.proofs.lemmas.Bool.{and_parts, and_from, cases_Bool, cases_eq, eq-eqb, eqb-true, leb-true, le-leb, ltb-true, ne_eqb, or_cases}
 use Rattle.rf_finite.specs.Ends.{within}
 use Rattle.rf_finite.proofs.Range.{below_or_last, count_below-apart, count_below-cover, count_below-same}
 use Rattle.rf_values.specs.Count.{contains, end_less_one, ends_at, less_one, lesser_end, meet}
@@ -11,23 +11,23 @@ use Rattle.rf_values.specs.declared.class_set.ClassSet.{ClassSet}
 use Rattle.rf_values.specs.declared.count.Count.{Count}
 use Rattle.rf_values.specs.declared.truth.Truth.TheVariants.{False, True}
 use Rattle.rf_problem.specs.declared.problem.Problem.{Problem}
-use Rattle.rf_graph.specs.Graph.{class_of, origin_of, size_of}
+use Rattle.rf_graph.specs.Graph.{class_of, size_of}
 use Rattle.rf_graph.specs.declared.graph.Graph.{Graph}
-use Rattle.rf_state.specs.Laws.{AreSameButFor, IsFresh}
-use Rattle.rf_state.specs.State.{IsRoot, State, copied_from, fresh_of, kept_to, narrowed, object_of, with_object}
+use Rattle.rf_state.specs.Laws.{IsFresh}
+use Rattle.rf_state.specs.State.{IsRoot, State, copied_from, fresh_of, object_of, with_object}
 use Rattle.rf_state.specs.declared.object.Object.{Object}
 use Rattle.rf_state.proofs.EditLemmas.{fresh_is, own, same_but_for}
 use Rattle.rf_rules.specs.Applying.{IsApplicable}
 use Rattle.rf_rules.specs.Decisions.{allowed, side}
 use Rattle.rf_rules.specs.Effects.{after_effect}
-use Rattle.rf_rules.specs.Rules.{after, fires, instance_of, is_edge, is_object}
+use Rattle.rf_rules.specs.Rules.{instance_of, is_edge, is_object}
 use Rattle.rf_rules.specs.Words.{classes_below, hi, lo}
 use Rattle.rf_rules.specs.declared.decision.Decision.{Decision}
 use Rattle.rf_rules.specs.declared.decision.Decision.TheVariants.{Fresh, Kind, Ref}
 use Rattle.rf_rules.specs.declared.effect.Effect.{Effect}
 use Rattle.rf_rules.specs.declared.effect.Effect.TheVariants.{AtLeast, AtMost, Close, Keep, Lose, Merge}
 use Rattle.rf_rules.proofs.ApplyLemmas.{effect_is_applicable}
-use Rattle.rf_placement.specs.Placement.{Placing, StandsFor, nodes_at}
+use Rattle.rf_placement.specs.Placement.{Placing, nodes_at}
 use Rattle.rf_placement.proofs.Satisfied.{contains_parts}
 use Rattle.rf_final.specs.Reached.{IsReached, at_root, by_decision, by_rule}
 use Rattle.rf_final.specs.Standing.{HasNodes, IsStocked}
@@ -63,7 +63,8 @@ less_one_more a n some h =
     and_from (nat_le a.lo (n + 1)) (within (n + 1) a.hi) (le-leb a.lo (n + 1) (omega arith)) (one_more_within n a.hi some parts.1)
 
 -- where each object of s is looser, s has the nodes that t has
-loosened : (s t : State) (g : Graph) (h : Placing) → length t.objects ≡ length s.objects → ((q : ℕ) → IsLooser (object_of s q) (object_of t q)) → HasNodes t g h → HasNodes s g h
+loosened : (s t : State) (g : Graph) (h : Placing) → length t.objects ≡ length s.objects
+    → ((q : ℕ) → IsLooser (object_of s q) (object_of t q)) → HasNodes t g h → HasNodes s g h
 loosened s t g h many loose c = record {
   objects = λ x l. subst (λ n. h x < n) many (c.objects x l);
   origins = λ x l. sym (loose (h x)).origin ∙ c.origins x l;
@@ -99,7 +100,8 @@ kept_looser : (x : Object) (set : ClassSet) → IsLooser x (record x { candidate
 kept_looser x set = record {
   origin = refl;
   count = λ n k. k;
-  candidates = λ c k. (and_parts (contains_class x.candidates c) (contains_class set c) (sym (contains-intersection nat_cmp_total x.candidates set c) ∙ k)).0;
+  candidates = λ c k. (and_parts (contains_class x.candidates c) (contains_class set c)
+      (sym (contains-intersection nat_cmp_total x.candidates set c) ∙ k)).0;
 }
 
 module _ (p : Problem) (s : State) where
@@ -108,7 +110,8 @@ module _ (p : Problem) (s : State) where
   effect_back (AtMost o n) fits g h c = with_back p s o _ fits.0 (met_looser (object_of s o) (record { lo = 0; hi = Some n })) g h c
   effect_back (AtLeast o n) fits g h c = with_back p s o _ fits.0 (met_looser (object_of s o) (record { lo = n; hi = None })) g h c
   effect_back (Keep o set) fits g h c = with_back p s o _ fits (kept_looser (object_of s o) set) g h c
-  effect_back (Lose o set) fits g h c = with_back p s o _ fits (kept_looser (object_of s o) (difference (object_of s o).candidates set)) g h c
+  effect_back (Lose o set) fits g h c =
+      with_back p s o _ fits (kept_looser (object_of s o) (difference (object_of s o).candidates set)) g h c
   effect_back (Merge r a b v) fits g h c = record { objects = c.objects; origins = c.origins; counts = c.counts; classes = c.classes }
 
   effect_stocked : (e : Effect) → IsApplicable p s e → IsStocked p s → IsStocked p (after_effect s e)
@@ -149,7 +152,8 @@ module _ (p : Problem) (s : State) (o : ℕ) (l : o < length s.objects) where
   fresh_stocked : IsStocked p s → IsStocked p (fresh_of s o)
   fresh_stocked c = record {
     many = let more = one_more in let all = c.many in omega arith;
-    numbered = λ q k. each_object (λ q z. q < length p.objects → z.origin ≡ q) (λ l. let all = c.many in absurd (omega arith)) (c.numbered o) (λ q old ne. c.numbered q) q
+    numbered = λ q k. each_object (λ q z. q < length p.objects → z.origin ≡ q) (λ l. let all = c.many in absurd (omega arith))
+        (c.numbered o) (λ q old ne. c.numbered q) q
         (let all = c.many in omega arith) k;
   }
 
@@ -178,7 +182,8 @@ module _ (p : Problem) (s : State) (o : ℕ) (l : o < length s.objects) where
     one_copy : nodes_at g h n ≡ 1
     one_copy =
         let k : contains (object_of (fresh_of s o) n).count (nodes_at g h n) ≡ true = c.counts n (let more = one_more in omega arith) in
-        let parts = contains_parts (record { lo = 1; hi = Some 1 }) (nodes_at g h n) (subst (λ z. contains z.count (nodes_at g h n) ≡ true) fresh.fresh k) in
+        let parts = contains_parts (record { lo = 1; hi = Some 1 }) (nodes_at g h n)
+        (subst (λ z. contains z.count (nodes_at g h n) ≡ true) fresh.fresh k) in
         let low = parts.0 in let high = leb-true (nodes_at g h n) 1 parts.1 in omega arith
 
     both : nodes_at g to o ≡ nodes_at g h o + 1
@@ -215,11 +220,12 @@ module _ (p : Problem) (s : State) (o : ℕ) (l : o < length s.objects) where
       objects = λ x k. was_there (h x) (there x k);
       origins = λ x k. same_was (λ z. z.origin) refl refl (h x) (there x k) ∙ c.origins x k;
       counts = counts_before;
-      classes = λ x k. subst (λ set. contains_class set (class_of g x) ≡ true) (sym (same_was (λ z. z.candidates) refl refl (h x) (there x k))) (c.classes x k);
+      classes = λ x k. subst (λ set. contains_class set (class_of g x) ≡ true)
+          (sym (same_was (λ z. z.candidates) refl refl (h x) (there x k))) (c.classes x k);
     }
 
 -- what is said of each side of a decision is said of its effect, or of the fresh object
-abbrev Has : State → Graph → Type 0
+abbrev pub Has : State → Graph → Type 0
 Has s g = (h : Placing) × HasNodes s g h
 
 module _ (p : Problem) (s : State) where
@@ -258,12 +264,15 @@ module _ (p : Problem) (s : State) where
   side_back (Kind o k) false a g c =
       let one = and_parts _ _ a in let two = and_parts (is_object s o) _ one.0 in
       (c.0, effect_back p s (Lose o (classes_below p k)) (ltb-true o (length s.objects) two.0) g c.0 c.1)
-  side_back (Ref r x y) true a g c = (c.0, effect_back p s (Merge r x y True) (edge_applies r x y (and_parts (is_edge p s r x y) _ a).0) g c.0 c.1)
-  side_back (Ref r x y) false a g c = (c.0, effect_back p s (Merge r x y False) (edge_applies r x y (and_parts (is_edge p s r x y) _ a).0) g c.0 c.1)
+  side_back (Ref r x y) true a g c =
+      (c.0, effect_back p s (Merge r x y True) (edge_applies r x y (and_parts (is_edge p s r x y) _ a).0) g c.0 c.1)
+  side_back (Ref r x y) false a g c =
+      (c.0, effect_back p s (Merge r x y False) (edge_applies r x y (and_parts (is_edge p s r x y) _ a).0) g c.0 c.1)
 
   side_stocked : (d : Decision) (first : Bool) → allowed p s d ≡ true → IsStocked p s → IsStocked p (side p s d first)
   side_stocked (Fresh o) true a c = fresh_stocked p s o (ltb-true o (length s.objects) (and_parts (is_object s o) _ a).0) c
-  side_stocked (Fresh o) false a c = effect_stocked p s (AtMost o 0) (none_fits o (ltb-true o (length s.objects) (and_parts (is_object s o) _ a).0)) c
+  side_stocked (Fresh o) false a c =
+      effect_stocked p s (AtMost o 0) (none_fits o (ltb-true o (length s.objects) (and_parts (is_object s o) _ a).0)) c
   side_stocked (Kind o k) true a c =
       let one = and_parts _ _ a in let two = and_parts (is_object s o) _ one.0 in
       effect_stocked p s (Keep o (classes_below p k)) (ltb-true o (length s.objects) two.0) c
@@ -275,10 +284,12 @@ module _ (p : Problem) (s : State) where
 
 pub reached_stocked : (p : Problem) (s : State) → IsReached p s → IsStocked p s
 reached_stocked p _ (at_root s is) = record { many = let same = is.many in omega arith; numbered = is.origins }
-reached_stocked p _ (by_rule s rule r f e) = effect_stocked p s (instance_of p s rule).effect (effect_is_applicable p s rule f) (reached_stocked p s r)
+reached_stocked p _ (by_rule s rule r f e) =
+    effect_stocked p s (instance_of p s rule).effect (effect_is_applicable p s rule f) (reached_stocked p s r)
 reached_stocked p _ (by_decision s d first r a) = side_stocked p s d first a (reached_stocked p s r)
 
 pub reached_back : (p : Problem) (s : State) → IsReached p s → (g : Graph) → Has s g → (root : State) × IsRoot p root × Has root g
 reached_back p _ (at_root s is) g c = (s, is, c)
-reached_back p _ (by_rule s rule r f e) g c = reached_back p s r g (c.0, effect_back p s (instance_of p s rule).effect (effect_is_applicable p s rule f) g c.0 c.1)
+reached_back p _ (by_rule s rule r f e) g c =
+    reached_back p s r g (c.0, effect_back p s (instance_of p s rule).effect (effect_is_applicable p s rule f) g c.0 c.1)
 reached_back p _ (by_decision s d first r a) g c = reached_back p s r g (side_back p s d first a g c)

@@ -1,1 +1,14 @@
-pub mod Back
+mod Firsts
+mod Pieces
+mod Back
+mod Truths
+mod Settled
+mod Nodes
+mod Values
+mod Classes
+mod Counts
+mod Shape
+mod Scopes
+mod Edges
+mod Inputs
+mod Whole

@@ -1,5 +1,5 @@
 -- A command that words say has a budget within its limits.
-use Rattle.std.proofs.Common.{◌≡◌, ◌×◌, ◌≤◌, ℕ, List, [], ◌∷◌, refl, sym, inl, inr, arith}
+use Rattle.std.proofs.Common.{◌≡◌, ◌≤◌, ℕ, List, [], ◌∷◌, refl, sym, inl, inr, arith}
 use Rattle.rf_bounds.specs.declared.TheConstants.{MOST_DECISIONS}
 use Rattle.rf_words.specs.Meaning.{HasNumber, IsCommand}
 use Rattle.rf_words.specs.declared.request.TheConstants.{DEFAULT_BUDGET}
@@ -15,7 +15,7 @@ within_limits (value ∷ other ∷ values) n is = absurd is
 
 pub has_budget : (words : List (List ℕ)) (c : Command) → IsCommand words c → HasBudget c
 has_budget [] c is = absurd is
-has_budget (name ∷ words) (Generate file seed budget json) is = within_limits _ budget is.1.2.1.0
+has_budget (name ∷ words) (Generate file seed budget json) is = within_limits _ budget is.1.2.1
 has_budget (name ∷ words) (Check file graph) is = tt
 has_budget (name ∷ words) (Verify file tree) is = tt
 has_budget (name ∷ words) (Evaluate file) is = tt

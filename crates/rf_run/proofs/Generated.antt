@@ -6,8 +6,6 @@ use Rattle.rf_failure.specs.declared.Failure.{Failure}
 use Rattle.rf_failure.specs.declared.Failure.TheVariants.{Fault, Memory}
 use Rattle.rf_problem.specs.declared.problem.Problem.{Problem}
 use Rattle.rf_state.specs.State.{State}
-use Rattle.rf_rules.specs.Decisions.{side}
-use Rattle.rf_rules.specs.Rules.{after}
 use Rattle.rf_graph.specs.Violations.{Sat}
 use Rattle.rf_graph.specs.declared.graph.Graph.{Graph}
 use Rattle.rf_tree.specs.Document.{FitsKind}
@@ -21,7 +19,7 @@ use Rattle.rf_tree.specs.declared.outcome.Outcome.{Outcome}
 use Rattle.rf_tree.specs.declared.outcome.Outcome.TheVariants.{Found, Refuted, Unfinished}
 use Rattle.rf_soundness.proofs.Trees.{valid_is_sound}
 use Rattle.rf_search.specs.Outcome.{IsOutcome}
-use Rattle.rf_search.proofs.Outcomes.{outcome_once}
+use Rattle.rf_search.proofs.OnceLemmas.{outcome_once}
 use Rattle.rf_words.specs.declared.request.Command.TheVariants.{Generate}
 use Rattle.rf_run.specs.Answers.{Answers, AnswersGenerate, IsRightGeneration}
 use Rattle.rf_run.specs.Outcome.{FitsOutcome, IsDocumentOf, outcome_text, sign_of_outcome}
@@ -31,19 +29,19 @@ use Rattle.rf_run.specs.declared.refusal.Refusal.{Refusal}
 use Rattle.rf_run.specs.declared.refusal.Refusal.TheVariants.{TooLong, Problem as NoProblem, BadLine}
 
 -- the lines of a tree that fits are each of their kind
-kinds_fit : (p : Problem) (s : State) (t : Tree) → FitsTree p s t → All FitsKind (lines_of t)
-kinds_fit p s hole fits = (All-nil FitsKind)
-kinds_fit p s (closing rule) fits = All-cons FitsKind (Close rule) [] fits.0 (All-nil FitsKind)
-kinds_fit p s (effect rule t) fits = All-cons FitsKind (Step rule) (lines_of t) fits.0 (kinds_fit p (after p s rule) t fits.2)
-kinds_fit p s (choice d first t u) fits =
+kinds_fit : (p : Problem) (t : Tree) (s : State) → FitsTree p s t → All FitsKind (lines_of t)
+kinds_fit p hole s fits = (All-nil FitsKind)
+kinds_fit p (closing rule) s fits = All-cons FitsKind (Close rule) [] fits.0 (All-nil FitsKind)
+kinds_fit p (effect rule t) s fits = All-cons FitsKind (Step rule) (lines_of t) fits.0 (kinds_fit p t _ fits.2)
+kinds_fit p (choice d first t u) s fits =
     All-cons FitsKind (Decide d first) (lines_of t ++ lines_of u) tt
-    (All-append FitsKind (lines_of t) (lines_of u) (kinds_fit p _ t fits.1) (kinds_fit p _ u fits.2))
+    (All-append FitsKind (lines_of t) (lines_of u) (kinds_fit p t _ fits.1) (kinds_fit p u _ fits.2))
 
 -- what is right can be printed
 pub outcome_fits : (p : Problem) (budget : ℕ) (outcome : Outcome) → IsRightOutcome p budget outcome → FitsOutcome p outcome
 outcome_fits p budget (Found g) right = right.fits
-outcome_fits p budget (Refuted lines) right = subst (All FitsKind) (sym right.read) (kinds_fit p right.root right.tree right.fits)
-outcome_fits p budget (Unfinished lines) right = subst (All FitsKind) (sym right.read) (kinds_fit p right.root right.tree right.fits)
+outcome_fits p budget (Refuted lines) right = subst (All FitsKind) (sym right.read) (kinds_fit p right.tree right.root right.fits)
+outcome_fits p budget (Unfinished lines) right = subst (All FitsKind) (sym right.read) (kinds_fit p right.tree right.root right.fits)
 
 -- what is printed of it is right in the user's words
 pub generation_right :
@@ -76,7 +74,7 @@ generation_decides file p second seed budget outcome reply ends text sign = reco
   ok = record { outcome = outcome; ends = ends; text = text; sign = sign };
   found = λ x answers. other x answers;
   fault = tt;
-  stuck = λ r refuses. never r refuses;
+  stuck = λ r refuses. absurd (never r refuses);
 }
   where
     other : (x : Reply) → AnswersGenerate p seed budget x → reply ≡ x
@@ -85,7 +83,7 @@ generation_decides file p second seed budget outcome reply ends text sign = reco
         same_reply p outcome reply x text (subst (λ o. x.text ≡ outcome_text p o) same answers.text) sign
         (subst (λ o. x.sign ≡ sign_of_outcome o) same answers.sign)
 
-    never : (r : Refusal) → RefusesSecond (Generate file seed budget false) p second r → (Ok reply ≡ Err (Fault r)) ⊎ (Ok reply ≡ Err Memory)
+    never : (r : Refusal) → RefusesSecond (Generate file seed budget false) p second r → ⊥
     never (TooLong sort) refuses = absurd refuses.0
     never (NoProblem fault) refuses = absurd refuses
     never (BadLine sort line) refuses = absurd refuses

@@ -7,8 +7,8 @@ pub mod CourseLemmas
 pub mod StackLemmas
 pub mod SearchLemmas
 pub mod ReachLemmas
-pub mod FinalLemmas
 pub mod RightLemmas
 pub mod SideLemmas
 pub mod SizeLemmas
-pub mod OutcomeLemmas
+pub mod OnceLemmas
+pub mod CourseLaws

@@ -16,7 +16,7 @@ use Rattle.rf_final.specs.GraphOf.{graph_of}
 use Rattle.rf_search.specs.Course.{Leads, Place, root_place}
 use Rattle.rf_search.specs.Outcome.{Ends, EndsFound, EndsRefuted, EndsUnfinished, IsOutcome}
 use Rattle.rf_search.proofs.CourseLemmas.{Leads-join, Leads-left, states_of}
-use Rattle.rf_search.proofs.FinalLemmas.{final_satisfies}
+use Rattle.rf_final.proofs.Whole.{final_satisfies}
 use Rattle.rf_search.proofs.ReachLemmas.{first-on_course}
 
 -- lines with the closing of the last place lead nowhere

@@ -1,4 +1,4 @@
-use Rattle.std.proofs.Common.{◌≡◌, ◌∙◌, ◌+◌, ◌<◌, length, sym, ap, arith, slice_index_or}
+use Rattle.std.proofs.Common.{◌∙◌, ◌<◌, length, sym, ap, arith, slice_index_or}
 use Rattle.rf_finite.specs.Passing.{joined}
 use Rattle.rf_decide.specs.Choice.{no_decision}
 use Rattle.rf_decide.proofs.Joining.{joined_at}

@@ -1,4 +1,4 @@
-use Rattle.std.proofs.Common.{◌≡◌, ◌+◌, ℕ, length}
+use Rattle.std.proofs.Common.{◌≡◌, ◌+◌, length}
 use Rattle.rf_finite.specs.Passing.{joined}
 use Rattle.rf_decide.proofs.lists.member_of.Given as goal
 
