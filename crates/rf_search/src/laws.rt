@@ -2,6 +2,8 @@
 
 ghost use Rattle.rf_search.specs.Laws.{CourseIsUnique, CourseStands, CoursesArePrefixes, FamiliesAreInOrder, OutcomeIsRight, OutcomeIsUnique, RuleNarrows};
 
+use rf_final::final_law;
+
 /// A rule that fires and is no closing leaves less to be narrowed.
 pub fn narrowing_law()
     ensures { RuleNarrows }
@@ -28,4 +30,6 @@ pub fn outcome_law()
 /// An outcome is right.
 pub fn right_law()
     ensures { OutcomeIsRight }
-{}
+{
+    final_law();
+}
