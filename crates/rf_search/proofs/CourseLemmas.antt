@@ -54,9 +54,11 @@ pub Steps-lead : (p : Problem) (seed k : ℕ) (s : State) (way : List State) (li
     → Leads p seed k lines (record { state = s; way = way } ∷ rest) (record { state = t; way = way } ∷ rest)
 Steps-lead p seed k s way [] t rest h = λ i. record { state = sym h i; way = way } ∷ rest
 Steps-lead p seed k s way (Step rule ∷ lines) t rest h =
-    let e : k ≡ k + 0 = omega arith in
-    ((h.0, h.1), subst (λ (n : ℕ). Leads p seed n lines (record { state = after p s rule; way = way } ∷ rest) (record { state = t; way = way } ∷ rest)) e
-      (Steps-lead p seed k (after p s rule) way lines t rest h.2))
+    let e : k ≡ k + 0 = omega arith in (
+      (h.0, h.1),
+      subst (λ (n : ℕ). Leads p seed n lines (record { state = after p s rule; way = way } ∷ rest) (record { state = t; way = way } ∷ rest)) e
+          (Steps-lead p seed k (after p s rule) way lines t rest h.2),
+    )
 Steps-lead p seed k s way (Decide d first ∷ lines) t rest h = absurd h
 Steps-lead p seed k s way (Close rule ∷ lines) t rest h = absurd h
 

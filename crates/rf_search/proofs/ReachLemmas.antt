@@ -78,10 +78,9 @@ line-on_course : (p : Problem) (seed k made : ℕ) (x : Place) (line : Line) (re
     → AreOnCourse p made rest → AreOnCourse p (made + decisions_in (line ∷ [])) (places_after p x line ++ rest)
 line-on_course p seed k made x (Step rule) rest next at all =
     all-later p made (made + 0) (record { state = after p x.state rule; way = x.way } ∷ rest) (omega arith)
-      (after-on_course p made x.state rule at (by_rule x.state rule at.reached next.0.passes next.1), all)
+    (after-on_course p made x.state rule at (by_rule x.state rule at.reached next.0.passes next.1), all)
 line-on_course p seed k made x (Decide d first) rest next at all =
-    let ok : allowed p x.state d ≡ true = chosen_allowed p x.state (word seed k) d first next.1 in
-    (
+    let ok : allowed p x.state d ≡ true = chosen_allowed p x.state (word seed k) d first next.1 in (
       side-on_course p made x.state d first at ok,
       (side-on_course p made x.state d (not first) at ok, all-later p made (made + 1) rest (omega arith) all),
     )
@@ -94,7 +93,7 @@ Leads-on_course p seed k made (line ∷ lines) [] left h all = absurd h
 Leads-on_course p seed k made (line ∷ lines) (x ∷ places) left h all =
     let m = made + decisions_in (line ∷ []) in
     let r = Leads-on_course p seed (k + decisions_in (line ∷ [])) m lines (places_after p x line ++ places) left h.1
-      (line-on_course p seed k made x line places h.0 all.0 all.1) in
+    (line-on_course p seed k made x line places h.0 all.0 all.1) in
     let e = decisions_in-cons line lines in
     let f : m + decisions_in lines ≡ made + decisions_in (line ∷ lines) = omega arith in
     subst (λ (n : ℕ). AreOnCourse p n left) f r

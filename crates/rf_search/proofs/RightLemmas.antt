@@ -24,8 +24,8 @@ pub refuted-leads : (p : Problem) (seed budget : ℕ) (root : State) (lines : Li
     → EndsRefuted p seed budget root lines s way → Leads p seed 0 lines (root_place root ∷ []) []
 refuted-leads p seed budget root lines s way h =
     subst (λ (ls : List Line). Leads p seed 0 ls (root_place root ∷ []) []) (sym h.last)
-      (Leads-join p seed 0 (decisions_in h.before) h.before (Close h.rule ∷ []) (root_place root ∷ []) (record { state = s; way = way } ∷ []) [] h.leads
-        (omega arith) (h.closed, refl))
+    (Leads-join p seed 0 (decisions_in h.before) h.before (Close h.rule ∷ []) (root_place root ∷ []) (record { state = s; way = way } ∷ []) [] h.leads
+    (omega arith) (h.closed, refl))
 
 -- given that the graph of a final state satisfies, which the law of `rf_final` says
 pub right-from_ends : FinalSatisfies → (p : Problem) (seed budget : ℕ) (root : State) (outcome : Outcome) (s : State) (way : List State) → IsRoot p root
@@ -37,7 +37,7 @@ right-from_ends final_satisfies p seed budget root (Refuted lines) s way at h =
     (valid_is_computed p root lines at).1 (Leads-left p seed 0 lines (root_place root ∷ []) [] (refuted-leads p seed budget root lines s way h))
 right-from_ends final_satisfies p seed budget root (Unfinished lines) s way at h =
     (open_is_computed p root lines budget at).1
-      (s, states_of h.rest, Leads-left p seed 0 lines (root_place root ∷ []) (record { state = s; way = way } ∷ h.rest) h.leads, sym h.spent)
+    (s, states_of h.rest, Leads-left p seed 0 lines (root_place root ∷ []) (record { state = s; way = way } ∷ h.rest) h.leads, sym h.spent)
 
 pub right-from_outcome : FinalSatisfies → (p : Problem) (seed budget : ℕ) (outcome : Outcome) → IsOutcome p seed budget outcome → IsRightOutcome p budget outcome
 right-from_outcome final p seed budget outcome h = right-from_ends final p seed budget h.root outcome h.state h.way h.is_root h.ends

@@ -48,7 +48,7 @@ module _ (p : Problem) (seed budget : ℕ) (root : State) where
       → IsSearching p seed budget root made lines t kept us
   settled made before lines s t kept us h done =
       subst (λ (ls : List Line). IsSearching p seed budget root made ls t kept us) (sym done.settled.0)
-        (stepped made before done.steps s t kept us h done.reached)
+      (stepped made before done.steps s t kept us h done.reached)
 
   -- what is left after a closing
   pub record IsClosed (made : ℕ) (lines : List Line) (t : State) (kept : List State) (us : List Untried) : Type 0 where
@@ -67,7 +67,7 @@ module _ (p : Problem) (seed budget : ℕ) (root : State) where
       let next : IsNext p seed t made (Close rule) = (done.settled.2, done.settled.3) in
       let leads : Leads p seed 0 (all ++ Close rule ∷ []) (root_place root ∷ []) (untried_places p kept us []) =
       Leads-join p seed 0 made all (Close rule ∷ []) (root_place root ∷ []) (here t kept ∷ untried_places p kept us []) (untried_places p kept us []) at.leads
-        (omega arith) (next, refl) in
+      (omega arith) (next, refl) in
       let last : lines ≡ all ++ Close rule ∷ [] = done.settled.1 in
       record {
         count = (let e = decisions_in-join all (Close rule ∷ []) in let f = ap decisions_in last in omega arith);
@@ -130,16 +130,16 @@ module _ (p : Problem) (seed budget : ℕ) (root : State) where
       λ i. record { state = side p (last i) u.decision (not u.first); way = way i } in
       let places : here (side p t u.decision (not u.first)) more ∷ untried_places p kept us [] ≡ untried_places p more (us ++ u ∷ []) [] =
       sym (untried_places-push p more us u []
-        ∙ ap₂ (λ (x : Place) (xs : List Place). x ∷ xs) other (sym (untried_places-same p kept more 0 us (length kept) [] same h.stack))) in
+      ∙ ap₂ (λ (x : Place) (xs : List Place). x ∷ xs) other (sym (untried_places-same p kept more 0 us (length kept) [] same h.stack))) in
       record {
         count = (let e = decisions_in-join lines (Decide u.decision u.first ∷ []) in let m = h.count in omega arith);
         few = omega arith;
         stack = rw size (AreUntried-push p more 0 us (length kept) u
-          (AreUntried-same p kept more 0 us (length kept) (length kept) same (omega arith) h.stack) version back);
+            (AreUntried-same p kept more 0 us (length kept) (length kept) same (omega arith) h.stack) version back);
         leads =
             Leads-join p seed 0 made lines (Decide u.decision u.first ∷ []) (root_place root ∷ []) (here t kept ∷ untried_places p kept us [])
-              (here (side p t u.decision u.first) more ∷ untried_places p more (us ++ u ∷ []) []) h.leads (let m = h.count in omega arith)
-              ((least, choice), ap (λ (xs : List Place). here (side p t u.decision u.first) more ∷ xs) places);
+            (here (side p t u.decision u.first) more ∷ untried_places p more (us ++ u ∷ []) []) h.leads (let m = h.count in omega arith)
+            ((least, choice), ap (λ (xs : List Place). here (side p t u.decision u.first) more ∷ xs) places);
       }
 
   -- where nothing is chosen

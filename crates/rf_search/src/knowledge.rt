@@ -42,11 +42,7 @@ impl Knowledge {
     }
 
     /// The least rule that fires.
-    pub fn least<V: View>(
-        &mut self,
-        alloc: Global,
-        view: &V,
-    ) -> Result<Option<Rule>, AllocError>
+    pub fn least<V: View>(&mut self, alloc: Global, view: &V) -> Result<Option<Rule>, AllocError>
         requires { IsKnown (V.problem view.now) (V.state view.now) self.old }
         ensures least { IfOk result (IsLeast (V.problem view.now) (V.state view.now)) }
         ensures known { IsKnown (V.problem view.now) (V.state view.now) self.new }

@@ -174,7 +174,7 @@ returns-then-made-budget-clause-ends g c =
     let choice : chosen p t (word seed made) ≡ Some (c.in-Some-choose.decision, c.in-Some-choose.first) =
     rw (← same, ← c.next.ensures.word seed made c.loop-untried.invariant.taken) (sym c.in-Some-choose.ensures.chosen) in
     rw (c.from_vec-then-made-budget.ensures, c.in_ok-settle_known.ensures.kept)
-      (unfinished p seed budget root made lines t kept us c.in-Some-choose.decision c.in-Some-choose.first at least choice c.if-made-budget.true)
+    (unfinished p seed budget root made lines t kept us c.in-Some-choose.decision c.in-Some-choose.first at least choice c.if-made-budget.true)
 
 pub go_on-requires-clause-allowed : goal.go_on-requires-clause-allowed
 go_on-requires-clause-allowed g c =
@@ -246,4 +246,3 @@ loop-untried-preserved g c =
           )
           (decided p seed budget root made lines t kept us u at least choice few version);
     }
-

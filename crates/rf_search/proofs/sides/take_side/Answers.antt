@@ -10,7 +10,7 @@ touch-requires g c =
     let p = g.E.Facts.problem c.args.edit.now in
     let s = g.E.Facts.state c.args.edit.now in
     rw (c.in_ok-decide.ensures.problem, c.in_ok-decide.ensures.decided, c.change_on.ensures)
-      (side-fits_change p s c.args.decision.now c.args.first c.requires.allowed)
+    (side-fits_change p s c.args.decision.now c.args.first c.requires.allowed)
 
 pub returns-clause-known : goal.returns-clause-known
 returns-clause-known g c =
