@@ -1,5 +1,5 @@
 -- What holds of courses.
-use Rattle.std.proofs.Common.{◌≡◌, is_some, List, [], ◌∷◌, inl, inr, ap, subst}
+use Rattle.std.proofs.Common.{is_some, [], ◌∷◌, inl, inr, ap, subst}
 use Rattle.rf_state.specs.State.{State}
 use Rattle.rf_state.proofs.RootLemmas.{root-unique}
 use Rattle.rf_tree.proofs.TreeLaws.{stand_is_computed}

@@ -1,10 +1,9 @@
 -- A problem, a seed and a budget have one course and one outcome.
 use Rattle.std.proofs.Common.{◌≡◌, ◌⊎◌, ℕ, ◌+◌, ◌≤◌, ◌<◌, Bool, true, false, Option, Some, None, List, [], ◌∷◌, ◌++◌, length, refl, sym, ap, subst, ◌∙◌, inl, inr, arith, true≢false}
 use Rattle.std.proofs.lemmas.List.{length-append}
-use Rattle.rf_finite.specs.Firsts.{IsFirstOf}
 use Rattle.rf_finite.proofs.Firsts.{IsFirstOf-unique}
 use Rattle.rf_problem.specs.declared.problem.Problem.{Problem}
-use Rattle.rf_state.specs.State.{IsRoot, State}
+use Rattle.rf_state.specs.State.{State}
 use Rattle.rf_state.proofs.RootLemmas.{root-unique}
 use Rattle.rf_rules.specs.Rules.{fires, is_closing, rule_cmp}
 use Rattle.rf_rules.specs.declared.decision.Decision.{Decision}
@@ -17,14 +16,13 @@ use Rattle.rf_tree.specs.declared.line.Line.{Line}
 use Rattle.rf_tree.specs.declared.line.Line.TheVariants.{Close, Decide, Step}
 use Rattle.rf_tree.specs.declared.outcome.Outcome.{Outcome}
 use Rattle.rf_tree.specs.declared.outcome.Outcome.TheVariants.{Found, Refuted, Unfinished}
-use Rattle.rf_decide.specs.Choice.{chosen}
 use Rattle.rf_decide.specs.Words.{word}
 use Rattle.rf_decide.proofs.Chosen.{chosen_allowed}
 use Rattle.rf_final.specs.GraphOf.{graph_of}
-use Rattle.rf_search.specs.Course.{IsCourse, IsNext, Leads, Place, places_after, root_place}
+use Rattle.rf_search.specs.Course.{IsNext, Leads, Place, places_after, root_place}
 use Rattle.rf_search.specs.Laws.{CourseIsUnique, OutcomeIsUnique}
 use Rattle.rf_search.specs.Least.{IsLeast}
-use Rattle.rf_search.specs.Outcome.{Ends, EndsFound, EndsRefuted, EndsUnfinished, IsOutcome}
+use Rattle.rf_search.specs.Outcome.{Ends, EndsFound, EndsRefuted, EndsUnfinished}
 use Rattle.rf_search.proofs.CourseLemmas.{Leads-join, decisions_in-cons, decisions_in-join}
 
 same_some : (x y : Rule) → Some x ≡ Some y → x ≡ y

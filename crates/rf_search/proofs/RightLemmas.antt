@@ -1,21 +1,18 @@
 -- What a search ends with is right.
-use Rattle.std.proofs.Common.{◌≡◌, ℕ, true, false, Some, List, [], ◌∷◌, ◌++◌, refl, sym, subst, arith}
+use Rattle.std.proofs.Common.{ℕ, List, [], ◌∷◌, refl, sym, subst, arith}
 use Rattle.rf_problem.specs.declared.problem.Problem.{Problem}
 use Rattle.rf_graph.specs.Violations.{Sat}
-use Rattle.rf_graph.specs.declared.graph.Graph.{Graph}
 use Rattle.rf_state.specs.State.{IsRoot, State}
-use Rattle.rf_tree.specs.Lines.{Open, Valid}
 use Rattle.rf_tree.specs.Outcomes.{IsRightOutcome}
-use Rattle.rf_tree.specs.Pending.{decisions_in, left_after}
+use Rattle.rf_tree.specs.Pending.{decisions_in}
 use Rattle.rf_tree.specs.declared.line.Line.{Line}
 use Rattle.rf_tree.specs.declared.line.Line.TheVariants.{Close}
 use Rattle.rf_tree.specs.declared.outcome.Outcome.{Outcome}
 use Rattle.rf_tree.specs.declared.outcome.Outcome.TheVariants.{Found, Refuted, Unfinished}
 use Rattle.rf_tree.proofs.TreeLaws.{open_is_computed, valid_is_computed}
-use Rattle.rf_final.specs.GraphOf.{graph_of}
 use Rattle.rf_final.specs.Laws.{FinalSatisfies}
-use Rattle.rf_search.specs.Course.{Leads, Place, root_place}
-use Rattle.rf_search.specs.Outcome.{Ends, EndsFound, EndsRefuted, EndsUnfinished, IsOutcome}
+use Rattle.rf_search.specs.Course.{Leads, root_place}
+use Rattle.rf_search.specs.Outcome.{Ends, EndsRefuted, IsOutcome}
 use Rattle.rf_search.proofs.CourseLemmas.{Leads-join, Leads-left, states_of}
 use Rattle.rf_search.proofs.ReachLemmas.{first-on_course}
 
