@@ -19,7 +19,7 @@ use Rattle.rf_tree.specs.declared.outcome.Outcome.{Outcome}
 use Rattle.rf_tree.specs.declared.outcome.Outcome.TheVariants.{Found, Refuted, Unfinished}
 use Rattle.rf_soundness.proofs.Trees.{valid_is_sound}
 use Rattle.rf_search.specs.Outcome.{IsOutcome}
-use Rattle.rf_search.proofs.OutcomeLemmas.{outcome_is_unique}
+use Rattle.rf_search.proofs.OnceLemmas.{outcome_once}
 use Rattle.rf_words.specs.declared.request.Command.TheVariants.{Generate}
 use Rattle.rf_run.specs.Answers.{Answers, AnswersGenerate, IsRightGeneration}
 use Rattle.rf_run.specs.Outcome.{FitsOutcome, IsDocumentOf, outcome_text, sign_of_outcome}
@@ -79,7 +79,7 @@ generation_decides file p second seed budget outcome reply ends text sign = reco
   where
     other : (x : Reply) → AnswersGenerate p seed budget x → reply ≡ x
     other x answers =
-        let same : answers.outcome ≡ outcome = outcome_is_unique p seed budget answers.outcome outcome answers.ends ends in
+        let same : answers.outcome ≡ outcome = outcome_once p seed budget answers.outcome outcome answers.ends ends in
         same_reply p outcome reply x text (subst (λ o. x.text ≡ outcome_text p o) same answers.text) sign
         (subst (λ o. x.sign ≡ sign_of_outcome o) same answers.sign)
 

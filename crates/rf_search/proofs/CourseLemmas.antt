@@ -1,20 +1,14 @@
 -- Courses are joined, and what their lines lead to.
-use Rattle.std.proofs.Common.{◌≡◌, ℕ, ◌+◌, ◌≤◌, Bool, true, false, not, ◌&&◌, Option, Some, None, List, [], ◌∷◌, ◌++◌, map, refl, sym, ap, subst, ◌∙◌, arith, true≢false}
-use Rattle.std.proofs.lemmas.Bool.{false_from_ne_true}
-use Rattle.rf_finite.proofs.Range.{None-ne_Some}
+use Rattle.std.proofs.Common.{◌≡◌, ℕ, ◌+◌, true, Some, List, [], ◌∷◌, ◌++◌, map, refl, sym, ap, subst, arith}
 use Rattle.rf_problem.specs.declared.problem.Problem.{Problem}
 use Rattle.rf_state.specs.State.{State}
-use Rattle.rf_rules.specs.Decisions.{allowed, side}
-use Rattle.rf_rules.specs.Rules.{after, fires, is_closing}
-use Rattle.rf_rules.specs.declared.decision.Decision.{Decision}
-use Rattle.rf_rules.specs.declared.rule.Rule.{Rule}
+use Rattle.rf_rules.specs.Decisions.{allowed}
+use Rattle.rf_rules.specs.Rules.{after, fires}
 use Rattle.rf_tree.specs.Pending.{after_line, decisions_in, left_after}
 use Rattle.rf_tree.specs.declared.line.Line.{Line}
 use Rattle.rf_tree.specs.declared.line.Line.TheVariants.{Close, Decide, Step}
-use Rattle.rf_decide.specs.Choice.{chosen}
 use Rattle.rf_decide.specs.Words.{word}
 use Rattle.rf_search.specs.Course.{IsNext, Leads, Place, places_after}
-use Rattle.rf_search.specs.Least.{IsLeast}
 use Rattle.rf_search.specs.Settled.{Steps}
 use Rattle.rf_decide.proofs.Chosen.{chosen_allowed}
 

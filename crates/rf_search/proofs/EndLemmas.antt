@@ -1,9 +1,8 @@
 -- Where a search ends.
-use Rattle.std.proofs.Common.{◌≡◌, ℕ, Bool, true, false, Some, None, sym, ◌∙◌, true≢false}
+use Rattle.std.proofs.Common.{◌≡◌, ℕ, Bool, Some, None, sym, ◌∙◌, true≢false}
 use Rattle.std.proofs.lemmas.Bool.{false_from_ne_true}
 use Rattle.rf_problem.specs.declared.problem.Problem.{Problem}
 use Rattle.rf_state.specs.State.{State}
-use Rattle.rf_rules.specs.Decisions.{allowed}
 use Rattle.rf_rules.specs.Rules.{fires}
 use Rattle.rf_rules.specs.declared.decision.Decision.{Decision}
 use Rattle.rf_tree.specs.Saturated.{IsFinal, IsSaturated}

@@ -10,4 +10,5 @@ pub mod ReachLemmas
 pub mod RightLemmas
 pub mod SideLemmas
 pub mod SizeLemmas
-pub mod OutcomeLemmas
+pub mod OnceLemmas
+pub mod CourseLaws

@@ -1,13 +1,9 @@
 -- What a search knows, from round to round.
-use Rattle.std.proofs.Common.{◌≡◌, ℕ, ◌+◌, ◌≤◌, ◌<◌, true, false, not, Some, None, List, [], ◌∷◌, ◌++◌, length, take, refl, sym, ap, ap₂, subst, ◌∙◌, arith}
-use Rattle.std.proofs.lemmas.List.{append_assoc}
+use Rattle.std.proofs.Common.{◌≡◌, ℕ, ◌+◌, ◌<◌, true, false, not, Some, None, List, [], ◌∷◌, ◌++◌, length, take, refl, sym, ap, ap₂, subst, ◌∙◌, arith}
 use Rattle.rf_problem.specs.declared.problem.Problem.{Problem}
 use Rattle.rf_state.specs.State.{State}
 use Rattle.rf_rules.specs.Decisions.{allowed, side}
-use Rattle.rf_rules.specs.Rules.{is_closing}
-use Rattle.rf_rules.specs.declared.rule.Rule.{Rule}
 use Rattle.rf_tree.specs.Pending.{decisions_in}
-use Rattle.rf_tree.specs.Saturated.{IsFinal}
 use Rattle.rf_tree.specs.declared.line.Line.{Line}
 use Rattle.rf_tree.specs.declared.line.Line.TheVariants.{Close, Decide}
 use Rattle.rf_decide.specs.Choice.{chosen}
@@ -15,7 +11,7 @@ use Rattle.rf_decide.specs.Words.{word}
 use Rattle.rf_search.specs.Course.{IsNext, Leads, Place, root_place}
 use Rattle.rf_search.specs.Least.{IsLeast}
 use Rattle.rf_search.specs.Outcome.{EndsFound, EndsRefuted, EndsUnfinished}
-use Rattle.rf_search.specs.Settled.{IsSettled, Settles, Steps}
+use Rattle.rf_search.specs.Settled.{Settles, Steps}
 use Rattle.rf_search.specs.Stack.{CanGoBack, IsSearching, kept_at, untried_place, untried_places}
 use Rattle.rf_search.specs.declared.untried.Untried.{Untried}
 use Rattle.rf_decide.proofs.Chosen.{chosen_allowed}

@@ -1,10 +1,10 @@
 -- What a side of a decision changes, and which state is gone back to.
-use Rattle.std.proofs.Common.{◌≡◌, ◌<◌, ℕ, zero, suc, Bool, true, false, Some, None, List, [], ◌∷◌, length, refl, sym, ap, subst, ◌∙◌, arith}
+use Rattle.std.proofs.Common.{◌≡◌, ◌<◌, ℕ, zero, suc, Bool, true, false, List, [], ◌∷◌, length, refl, sym, subst, arith}
 use Rattle.std.specs.Prelude.{IfSome, slice_get, ◌&&◌, nat_lt}
 use Rattle.std.proofs.lemmas.Bool.{and_parts, ltb-true}
 use Rattle.std.proofs.lemmas.List.{length-set}
 use Rattle.rf_problem.specs.declared.problem.Problem.{Problem}
-use Rattle.rf_state.specs.State.{State, fresh_of}
+use Rattle.rf_state.specs.State.{State}
 use Rattle.rf_rules.specs.Decisions.{allowed, fits, is_open, side}
 use Rattle.rf_rules.specs.Rules.{is_edge, is_object}
 use Rattle.rf_rules.specs.declared.decision.Decision.{Decision}

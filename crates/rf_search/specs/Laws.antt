@@ -1,5 +1,5 @@
 -- What holds of rules that are applied one after another, and of searches.
-use Rattle.std.specs.Prelude.{◌≡◌, ◌⊎◌, ◌<◌, ◌++◌, ℕ, true, false, Option, List}
+use Rattle.std.specs.Prelude.{◌≡◌, ◌⊎◌, ◌<◌, ◌++◌, ℕ, true, false, Option, List, length}
 use Rattle.std.specs.Option.{option_or}
 use Rattle.rf_problem.specs.declared.problem.Problem.{Problem}
 use Rattle.rf_state.specs.State.{State}
@@ -27,21 +27,26 @@ FamiliesAreInOrder =
     → IsLeastOf is_of_scopes p s scopes → IsLeastOf is_of_predicates p s predicates
     → IsLeast p s (option_or types (option_or degrees (option_or containment (option_or scopes predicates))))
 
--- the lines of a course can stand
-abbrev pub CoursesStand : Type 0
-CoursesStand = (p : Problem) (seed : ℕ) (lines : List Line) → IsCourse p seed lines → CanStand p lines
+-- of each length a problem and a seed have at most one course
+abbrev pub CourseIsUnique : Type 0
+CourseIsUnique =
+    (p : Problem) (seed : ℕ) (lines other : List Line) → IsCourse p seed lines → IsCourse p seed other → length lines ≡ length other → lines ≡ other
 
--- of two courses of a problem and a seed one is a prefix of the other
+-- and of two courses of theirs one is a prefix of the other
 abbrev pub CoursesArePrefixes : Type 0
 CoursesArePrefixes =
     (p : Problem) (seed : ℕ) (lines other : List Line) → IsCourse p seed lines → IsCourse p seed other
     → ((more : List Line) × (other ≡ lines ++ more)) ⊎ ((more : List Line) × (lines ≡ other ++ more))
 
+-- the lines of a course can stand
+abbrev pub CourseStands : Type 0
+CourseStands = (p : Problem) (seed : ℕ) (lines : List Line) → IsCourse p seed lines → CanStand p lines
+
 -- a problem, a seed and a budget have at most one outcome
 abbrev pub OutcomeIsUnique : Type 0
 OutcomeIsUnique =
-    (p : Problem) (seed budget : ℕ) (outcome other : Outcome) → IsOutcome p seed budget outcome → IsOutcome p seed budget other → outcome ≡ other
+    (p : Problem) (seed budget : ℕ) (a b : Outcome) → IsOutcome p seed budget a → IsOutcome p seed budget b → a ≡ b
 
--- and it is right: a graph that was found satisfies, lines that refute are valid, unfinished ones are open with so many decisions
+-- an outcome is right: a graph satisfies, lines that refute are valid, and unfinished ones are open, with as many decisions as the budget
 abbrev pub OutcomeIsRight : Type 0
 OutcomeIsRight = (p : Problem) (seed budget : ℕ) (outcome : Outcome) → IsOutcome p seed budget outcome → IsRightOutcome p budget outcome

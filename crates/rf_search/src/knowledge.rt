@@ -9,16 +9,17 @@ ghost use Rattle.rf_search.specs.Knowledge.{IsKnown};
 ghost use Rattle.rf_search.specs.Least.{IsLeast};
 
 use crate::{Pending, pending};
-use rf_decide::choose;
+use rf_decide::{Counted, choose_counted};
 use rf_pending::Change;
 use rf_rules::{Decision, Rule};
 use rf_state::View;
 use std::alloc::{AllocError, Global};
 
-/// Which rules may fire.
+/// Which rules may fire, and how many decisions are allowed of each kind.
 #[derive(Debug, Drop)]
 pub struct Knowledge {
     pub pending: Pending,
+    pub counted: Counted,
 }
 
 impl Knowledge {
@@ -28,6 +29,7 @@ impl Knowledge {
     {
         Ok(Knowledge {
             pending: Pending::all(alloc, view)?,
+            counted: Counted::none(alloc, view)?,
         })
     }
 
@@ -38,6 +40,7 @@ impl Knowledge {
     {
         Ok(Knowledge {
             pending: Pending::none(alloc, view)?,
+            counted: Counted::none(alloc, view)?,
         })
     }
 
@@ -61,7 +64,8 @@ impl Knowledge {
         ensures { OnOk result ((s : State) → IsChange change s (V.state view.now) → IsKnown (V.problem view.now) s self.old
             → IsKnown (V.problem view.now) (V.state view.now) self.new) }
     {
-        pending::touch(alloc, view, &mut self.pending, change)
+        pending::touch(alloc, view, &mut self.pending, change)?;
+        self.counted.touch(alloc, view, change)
     }
 
     /// The decision that a word takes, and whether its first side leads.
@@ -71,6 +75,6 @@ impl Knowledge {
         ensures chosen { result ≡ chosen (V.problem view.now) (V.state view.now) word }
         ensures known { IsKnown (V.problem view.now) (V.state view.now) self.new }
     {
-        choose(view, word)
+        choose_counted(view, &mut self.counted, word)
     }
 }

@@ -1,6 +1,8 @@
 //! What holds of rules that are applied one after another and of searches, each law as the contract of a function that does nothing.
 
-ghost use Rattle.rf_search.specs.Laws.{CoursesArePrefixes, CoursesStand, FamiliesAreInOrder, OutcomeIsRight, OutcomeIsUnique, RuleNarrows};
+ghost use Rattle.rf_search.specs.Laws.{CourseIsUnique, CourseStands, CoursesArePrefixes, FamiliesAreInOrder, OutcomeIsRight, OutcomeIsUnique, RuleNarrows};
+
+use rf_final::final_law;
 
 /// A rule that fires and is no closing leaves less to be narrowed.
 pub fn narrowing_law()
@@ -12,9 +14,11 @@ pub fn families_law()
     ensures { FamiliesAreInOrder }
 {}
 
-/// The lines of a course can stand, and of two courses of a problem and a seed one is a prefix of the other.
+/// The lines of a course can stand. A problem and a seed have one course of each length at most, and of two courses
+/// of theirs one is a prefix of the other.
 pub fn course_law()
-    ensures stand { CoursesStand }
+    ensures stand { CourseStands }
+    ensures unique { CourseIsUnique }
     ensures prefix { CoursesArePrefixes }
 {}
 
@@ -26,4 +30,6 @@ pub fn outcome_law()
 /// An outcome is right.
 pub fn right_law()
     ensures { OutcomeIsRight }
-{}
+{
+    final_law();
+}

@@ -12,7 +12,7 @@ use crate::settling::settle_known;
 use crate::sides::{go_back, go_on};
 use crate::untried::Untried;
 use rf_decide::Words;
-use rf_final::graph_of;
+use rf_final::{final_law, graph_of};
 use rf_text::Items;
 use rf_tree::{Line, Outcome};
 use rf_vstate::Versions;
@@ -83,7 +83,10 @@ pub fn search<T: Versions>(
     ensures unchanged { OnErr result (T.kept t.new ≡ T.kept t.old) }
 {
     match rounds(alloc, t, seed, budget) {
-        Ok(outcome) => Ok(outcome),
+        Ok(outcome) => {
+            final_law();
+            Ok(outcome)
+        }
         Err(error) => {
             t.prune(0);
             Err(error)

@@ -1,5 +1,5 @@
-use Rattle.rf_search.proofs.OutcomeLemmas.{outcome_is_unique}
+use Rattle.rf_search.proofs.OnceLemmas.{outcome_once}
 use Rattle.rf_search.proofs.laws.outcome_law.Goals as goal
 
 pub returns : goal.returns
-returns c = outcome_is_unique
+returns c = outcome_once

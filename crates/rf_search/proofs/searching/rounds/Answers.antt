@@ -1,4 +1,4 @@
-use Rattle.std.proofs.Common.{◌≡◌, ℕ, ◌<◌, ◌++◌, ◌∷◌, [], List, Some, None, true, false, length, refl, sym, ap, subst, ◌∙◌, arith}
+use Rattle.std.proofs.Common.{◌≡◌, ◌<◌, ◌++◌, ◌∷◌, [], List, Some, None, true, false, length, refl, sym, ◌∙◌, arith}
 use Rattle.rf_decide.proofs.Chosen.{chosen_allowed}
 use Rattle.rf_decide.specs.Choice.{chosen}
 use Rattle.rf_decide.specs.Words.{word}

@@ -1,4 +1,3 @@
-use Rattle.std.proofs.Common.{◌≡◌}
 use Rattle.std.proofs.lemmas.Result.{on_ok_weaker}
 use Rattle.rf_pending.specs.Changes.{IsChange}
 use Rattle.rf_search.specs.Knowledge.{IsKnown}
