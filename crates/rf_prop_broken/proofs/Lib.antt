@@ -1,4 +1,3 @@
-pub mod InstanceLemmas
 pub mod FirstLemmas
 pub mod TouchLemmas
 pub mod RoundLemmas
