@@ -3,3 +3,8 @@ pub mod TouchLemmas
 pub mod RoundLemmas
 pub mod FarLemmas
 pub mod AfterLemmas
+pub mod BestLemmas
+pub mod FireLemmas
+pub mod LookingLemmas
+pub mod AssertingLemmas
+pub mod BrokenLemmas

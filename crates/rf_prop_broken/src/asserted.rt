@@ -11,7 +11,7 @@ ghost use Rattle.rf_prop_broken.specs.Asserting.{Matches, affirms, denies, is_af
 ghost use Rattle.rf_prop_broken.specs.Best.{Improves, fires_at};
 ghost use Rattle.rf_prop_broken.specs.declared.instances.Instances.TheVariants.{Broken};
 
-use crate::instances::{Instances, consider};
+use crate::instances::{Instances, consider, with};
 use rf_evaluate::Elements;
 use rf_problem::{Assertion, Problem, Symbol};
 use rf_state::{Facts, View};
@@ -83,18 +83,6 @@ fn elements_of<F: Facts>(view: &F, arg: Option<u64>) -> Elements<'_>
         None => Elements::Below(view.objects()),
         Some(origin) => view.from_origin(origin),
     }
-}
-
-// The list with one object more.
-fn with(objects: Objects, o: u64) -> Objects
-    requires { length objects < 8 }
-    ensures { result ≡ objects ++ o ∷ [] }
-{
-    let items = objects.as_slice();
-    let mut cells = [0; 8];
-    cells[..items.len()].copy_from_slice(items);
-    cells[items.len()] = o;
-    Objects::of(&cells[..items.len() + 1])
 }
 
 /// Considers `broken` at all lists that go on from these objects with objects that the arguments match.

@@ -1,10 +1,12 @@
 //! Objects that are chosen for the variables of a clause, one after the other.
 
 ghost use Rattle.std.specs.Prelude.{◌≡◌, ◌<◌, ◌≤◌, ◌&&◌, ℕ, Bool, IfSome, None, nat_lt, false, true, length, slice_index, slice_index_or, slice_set};
+ghost use Rattle.std.specs.List.{list_any};
 ghost use Rattle.rf_evaluate.specs.Terms.{is_unassigned, names_unassigned};
 ghost use Rattle.rf_problem.specs.Valid.{is_free};
 ghost use Rattle.rf_prop_broken.specs.Looking.{collected};
 
+use crate::instances::with;
 use rf_problem::{Literal, Term};
 use rf_values::Objects;
 
@@ -42,12 +44,19 @@ fn is_marked(marks: &[bool], term: Term) -> bool
     }
 }
 
+// Whether some term is a marked variable.
+fn some_marked(marks: &[bool], terms: &[Term]) -> bool
+    ensures { result ≡ list_any (is_unassigned marks.now) terms.now }
+{
+    terms.iter().any(|term| is_marked(marks, *term))
+}
+
 // Whether a literal names a marked variable.
 fn names_marked(marks: &[bool], literal: &Literal) -> bool
     ensures { result ≡ names_unassigned marks.now literal.now }
 {
     match literal {
-        Literal::Call { args, .. } => args.as_slice().iter().any(|t| is_marked(marks, *t)),
+        Literal::Call { args, .. } => some_marked(marks, args.as_slice()),
         Literal::Same(a, b) => is_marked(marks, *a) || is_marked(marks, *b),
         Literal::Differ(a, b) => is_marked(marks, *a) || is_marked(marks, *b),
     }
@@ -139,13 +148,11 @@ pub fn collected(variables: &[Option<u8>], places: &[u64; 8]) -> Objects
     requires { length variables.now ≤ 8 }
     ensures { result ≡ collected variables.now (slice_index places.now) }
 {
-    let mut cells = [0; 8];
-    let mut used = 0;
+    let mut objects = Objects::of(&[]);
     for v in 0..variables.len() {
         if variables[v].is_none() {
-            cells[used] = places[v];
-            used += 1;
+            objects = with(objects, places[v]);
         }
     }
-    Objects::of(&cells[..used])
+    objects
 }

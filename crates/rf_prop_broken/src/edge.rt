@@ -5,8 +5,10 @@ ghost use Rattle.rf_problem.specs.Reading.{Assignment};
 ghost use Rattle.rf_problem.specs.declared.predicate.Literal.TheVariants.{Call};
 ghost use Rattle.rf_problem.specs.declared.predicate.Term.TheVariants.{Var};
 ghost use Rattle.rf_problem.specs.declared.symbol.Symbol.TheVariants.{Reference};
+ghost use Rattle.rf_problem.specs.declared.problem.Problem.{Problem};
 ghost use Rattle.rf_rules.specs.Predicates.{is_open};
-ghost use Rattle.rf_state.specs.State.{fact};
+ghost use Rattle.rf_rules.specs.Words.{is_unknown};
+ghost use Rattle.rf_state.specs.State.{State, fact};
 ghost use Rattle.rf_prop_broken.specs.Looking.{Leads};
 
 use crate::choice::Choice;
@@ -73,8 +75,8 @@ impl Edge {
     /// Whether something is known of the edge between the objects of its variables.
     pub fn is_known<F: Facts>(&self, view: &F, choice: &Choice) -> bool
         requires { self.now.reference < length (F.problem view.now).references }
-        ensures { result ≡ true → is_known (fact (F.problem view.now) (F.state view.now) self.now.reference
-            (slice_index choice.now.places self.now.from) (slice_index choice.now.places self.now.to)) ≡ true }
+        ensures { result ≡ true → is_unknown (fact (F.problem view.now) (F.state view.now) self.now.reference
+            (slice_index choice.now.places self.now.from) (slice_index choice.now.places self.now.to)) ≡ false }
     {
         let Some(from) = choice.place(self.from) else {
             return false;

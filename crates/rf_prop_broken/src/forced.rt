@@ -1,6 +1,6 @@
 //! The first objects at which a literal of a clause is forced.
 
-ghost use Rattle.std.specs.Prelude.{◌≡◌, ◌<◌, ◌≤◌, ℕ, IfOk, IfSome, None, OnOk, false, true, length, max, slice_index, slice_index_or};
+ghost use Rattle.std.specs.Prelude.{◌≡◌, ◌<◌, ◌≤◌, ℕ, List, IfOk, IfSome, None, OnOk, false, true, length, max, slice_index, slice_index_or};
 ghost use Rattle.rf_problem.specs.Parts.{predicate_at};
 ghost use Rattle.rf_evaluate.specs.Elements.{AreBelow, includes};
 ghost use Rattle.rf_rules.specs.Predicates.{clause_at, literal_at};

@@ -1,6 +1,6 @@
 //! The rules of a predicate, or of a literal of a clause, one at each list of objects.
 
-ghost use Rattle.std.specs.Prelude.{◌≡◌, ◌≤◌, length, OnOk};
+ghost use Rattle.std.specs.Prelude.{◌≡◌, ◌<◌, ◌≤◌, ◌++◌, ◌∷◌, [], length, OnOk};
 ghost use Rattle.rf_prop_broken.specs.Best.{Improves, comes_before, fires_at, rule_of_best};
 ghost use Rattle.rf_prop_broken.specs.Kinds.{most_of, rule_of};
 ghost use Rattle.std.specs.Option.{ForSome};
@@ -42,6 +42,18 @@ impl Instances {
             Some(objects) => Some(self.rule_at(objects)),
         }
     }
+}
+
+/// The list with one object more.
+pub fn with(objects: Objects, o: u64) -> Objects
+    requires { length objects < 8 }
+    ensures { result ≡ objects ++ o ∷ [] }
+{
+    let items = objects.as_slice();
+    let mut cells = [0; 8];
+    cells[..items.len()].copy_from_slice(items);
+    cells[items.len()] = o;
+    Objects::of(&cells[..items.len() + 1])
 }
 
 // Whether a list of objects comes before the best one.
