@@ -47,17 +47,17 @@ module _ (says : Truth → Bool) (silent : says Unknown ≡ false) (parts : (a b
   said-first [] ws h = inr (said-merged ws h)
   said-first (v ∷ vs) ws h = inl (said-merged (v ∷ vs) h)
 
-  said-kept : (test : Assertion → Bool) (as : List Assertion) → list_any says (map (λ a. a.value) (filter test as)) ≡ true
-      → list_any (λ a. test a && says a.value) as ≡ true
+  said-kept : (test : Assertion → Bool) (claims : List Assertion) → list_any says (map (λ a. a.value) (filter test claims)) ≡ true
+      → list_any (λ a. test a && says a.value) claims ≡ true
   said-kept test [] h = h
-  said-kept test (a ∷ as) h = go (test a) refl
+  said-kept test (a ∷ claims) h = go (test a) refl
     where
-      go : (b : Bool) → test a ≡ b → list_any (λ x. test x && says x.value) (a ∷ as) ≡ true
-      go true e = elim (or_cases (says a.value) (list_any says (map (λ x. x.value) (filter test as))) (rw e at h)) [
-        | inl v ↦ or_left (test a && says a.value) (list_any (λ x. test x && says x.value) as) (and_from (test a) (says a.value) e v)
-        | inr v ↦ or_right (test a && says a.value) (list_any (λ x. test x && says x.value) as) (said-kept test as v)
+      go : (b : Bool) → test a ≡ b → list_any (λ x. test x && says x.value) (a ∷ claims) ≡ true
+      go true e = elim (or_cases (says a.value) (list_any says (map (λ x. x.value) (filter test claims))) (rw e at h)) [
+        | inl v ↦ or_left (test a && says a.value) (list_any (λ x. test x && says x.value) claims) (and_from (test a) (says a.value) e v)
+        | inr v ↦ or_right (test a && says a.value) (list_any (λ x. test x && says x.value) claims) (said-kept test claims v)
       ]
-      go false e = or_right (test a && says a.value) (list_any (λ x. test x && says x.value) as) (said-kept test as (rw e at h))
+      go false e = or_right (test a && says a.value) (list_any (λ x. test x && says x.value) claims) (said-kept test claims (rw e at h))
 
   module _ (p : Problem) (q : ℕ) (t : List ℕ) where
     abbrev said_by : Assertion → Bool
@@ -146,7 +146,7 @@ deniable-from_asserted p q t h = elim (said-asserted is_false refl is_false-part
       (λ a both. (and_parts (same_symbol a.symbol (Defined q) && is_false a.value) (match_each a.args t) both).0) s)
 ]
 
--- as many arguments match as there are objects
+-- claims many arguments match claims there are objects
 pub match_each-length : (args : List (Option ℕ)) (t : List ℕ) → match_each args t ≡ true → length args ≡ length t
 match_each-length [] [] h = refl
 match_each-length [] (o ∷ t) h = absurd (true≢false (sym h))

@@ -1,14 +1,15 @@
 -- The search for objects at which a literal of a clause is forced.
-use Rattle.std.proofs.Common.{◌≡◌, ◌≢◌, ◌⊎◌, ℕ, zero, suc, ◌+◌, ◌<◌, ◌≤◌, Bool, true, false, not, ◌&&◌, ◌||◌, ◌==◌, nat_lt, if◌then◌else◌, Option, None, Some, List, [], ◌∷◌, ◌++◌, All, length, drop, get_or, max, refl, sym, ap, ap₂, ◌∙◌, subst, inl, inr, arith, true≢false, slice_set, lt-ltb}
-use Rattle.std.specs.Prelude.{slice_index, slice_index_or}
+use Rattle.std.proofs.Common.{◌≡◌, ◌≢◌, ◌⊎◌, ℕ, zero, suc, ◌+◌, ◌<◌, ◌≤◌, Bool, true, false, not, ◌&&◌, ◌||◌, ◌==◌, nat_lt, if◌then◌else◌, Option, None, Some, List, [], ◌∷◌, ◌++◌, All, length, drop, take, get_or, max, refl, sym, ap, ap₂, ◌∙◌, subst, inl, inr, arith, true≢false, slice_set, lt-ltb}
+use Rattle.std.specs.Prelude.{IfSome, slice_index, slice_index_or}
 use Rattle.std.proofs.lemmas.Bool.{and_parts, both_ways, cases_Bool, cases_lt, cases_order, eq-eqb, eqb-true, ne_eqb, or_cases, or_parts}
 use Rattle.std.proofs.lemmas.Grind.{get_or-set_at}
-use Rattle.std.proofs.lemmas.List.{drop_more, get_or-set_other, get_or_past}
+use Rattle.std.proofs.lemmas.List.{get_or-set_other, get_or_past}
 use Rattle.rf_finite.specs.Ends.{within}
 use Rattle.rf_finite.specs.Tuples.{IsTuple}
 use Rattle.rf_values.specs.Truth.{may, must, truth_of}
 use Rattle.rf_values.specs.declared.truth.Truth.{Truth}
 use Rattle.rf_values.specs.declared.truth.Truth.TheVariants.{True, False, Unknown, Error}
+use Rattle.rf_problem.specs.Parts.{predicate_at}
 use Rattle.rf_problem.specs.Reading.{Assignment, predicate_true}
 use Rattle.rf_problem.specs.Valid.{is_free}
 use Rattle.rf_problem.specs.declared.predicate.Clause.{Clause}
@@ -28,7 +29,7 @@ use Rattle.rf_evaluate.proofs.InBoth.{must-truth_of}
 use Rattle.rf_evaluate.proofs.Unassigned.{literal-same}
 use Rattle.rf_state.specs.State.{State, fact}
 use Rattle.rf_state.specs.StateKnown.{state_known}
-use Rattle.rf_rules.specs.Predicates.{clause_at, free_count, given, is_open, is_same_term, literal_at, literal_known, may_be_forced, object_of_term, others_hold}
+use Rattle.rf_rules.specs.Predicates.{clause_at, free_count, given, is_open, is_same_term, literal_at, literal_known, may_be_forced, object_of_term, origins_of, others_hold}
 use Rattle.rf_rules.specs.Words.{hi, is_unknown}
 use Rattle.rf_rules.proofs.PredicateLemmas.{given-below}
 use Rattle.rf_prop_broken.specs.Best.{Improves, fires_at}
@@ -36,8 +37,18 @@ use Rattle.rf_prop_broken.specs.Looking.{GoesOn, HasChosen, IsNext, Leads, colle
 use Rattle.rf_prop_broken.specs.declared.choice.Choice.{Choice}
 use Rattle.rf_prop_broken.specs.declared.edge.Edge.{Edge}
 use Rattle.rf_prop_broken.specs.declared.instances.Instances.TheVariants.{Forced}
+use Rattle.rf_prop_broken.specs.Asserting.{is_deniable}
+use Rattle.rf_prop_broken.proofs.AssertingLemmas.{deniable-from_asserted}
 use Rattle.rf_prop_broken.proofs.BestLemmas.{improves-none, improves-then, improves-weaker}
 use Rattle.rf_prop_broken.proofs.FireLemmas.{forced-parts}
+
+pub IfSome-weaker : {T : Type 0} (o : Option T) (P Q : T → Type 0) → ((x : T) → P x → Q x) → IfSome o P → IfSome o Q
+IfSome-weaker None P Q to h = h
+IfSome-weaker (Some x) P Q to h = to x h
+
+pub None-from : {A : Type 0} (o : Option A) → ((x : A) → o ≡ Some x → ⊥) → o ≡ None
+None-from None h = refl
+None-from (Some x) h = absurd (h x refl)
 
 -- the objects that are given for a clause's variables are those of the list
 no_list : (t : List ℕ) → length t ≡ 0 → [] ≡ t
@@ -50,39 +61,6 @@ collected-given (Some i ∷ variables) t e = collected-given variables t e
 collected-given (None ∷ variables) [] e = absurd (omega (arith, e))
 collected-given (None ∷ variables) (o ∷ t) e = let more : length t ≡ free_count variables = omega (arith, e) in ap (λ (xs : List ℕ). o ∷ xs) (collected-given variables t more)
 
--- they are collected one by one
-module _ (variables : List (Option ℕ)) (places : Assignment) (v : ℕ) (l : v < length variables) where
-  shifted : (λ (u : ℕ). places (v + suc u)) ≡ (λ u. places (v + 1 + u))
-  shifted = λ i u. ap places (shift u) i
-    where
-      shift : (u : ℕ) → v + suc u ≡ v + 1 + u
-      shift u = omega arith
-
-  pub collected-one : (objects : List ℕ) (o : ℕ) → get_or variables v None ≡ None → o ≡ places v
-      → (objects ++ o ∷ []) ++ collected (drop (v + 1) variables) (λ u. places (v + 1 + u)) ≡ objects ++ collected (drop v variables) (λ u. places (v + u))
-  collected-one objects o none e =
-      append_one objects o (collected (drop (v + 1) variables) (λ u. places (v + 1 + u)))
-      ∙ ap (λ (xs : List ℕ). objects ++ xs) (ap₂ (λ (x : ℕ) (xs : List ℕ). x ∷ xs) (e ∙ ap places first) (ap (collected (drop (v + 1) variables)) (sym shifted))
-      ∙ ap (λ (es : List (Option ℕ)). collected es (λ u. places (v + u))) (sym (drop_more variables v None l ∙ ap (λ (x : Option ℕ). x ∷ drop (v + 1) variables) none)))
-    where
-      first : v ≡ v + 0
-      first = omega arith
-
-      append_one : (xs : List ℕ) (x : ℕ) (ys : List ℕ) → (xs ++ x ∷ []) ++ ys ≡ xs ++ x ∷ ys
-      append_one [] x ys = refl
-      append_one (y ∷ xs) x ys = ap (λ (zs : List ℕ). y ∷ zs) (append_one xs x ys)
-
-  pub collected-other : (objects : List ℕ) → (get_or variables v None ≡ None → ⊥)
-      → objects ++ collected (drop (v + 1) variables) (λ u. places (v + 1 + u)) ≡ objects ++ collected (drop v variables) (λ u. places (v + u))
-  collected-other objects some = go (get_or variables v None) refl
-    where
-      go : (entry : Option ℕ) → get_or variables v None ≡ entry
-          → objects ++ collected (drop (v + 1) variables) (λ u. places (v + 1 + u)) ≡ objects ++ collected (drop v variables) (λ u. places (v + u))
-      go None e = absurd (some e)
-      go (Some i) e =
-          ap (λ (xs : List ℕ). objects ++ xs) (ap (collected (drop (v + 1) variables)) (sym shifted)
-          ∙ ap (λ (es : List (Option ℕ)). collected es (λ u. places (v + u))) (sym (drop_more variables v None l ∙ ap (λ (x : Option ℕ). x ∷ drop (v + 1) variables) e)))
-
 -- a list of objects goes on from what is chosen, with one of the first n of some elements for a variable
 pub record GoesOnAmong (variables : List (Option ℕ)) (choice : Choice) (v : ℕ) (elements : Elements) (n : ℕ) (t : List ℕ) : Type 0 where
   pub goes_on : GoesOn variables choice t
@@ -92,6 +70,13 @@ pub record GoesOnAmong (variables : List (Option ℕ)) (choice : Choice) (v : �
 
 abbrev pub with_object : Choice → ℕ → ℕ → Choice
 with_object choice v x = record { places = slice_set choice.places v x; waiting = slice_set choice.waiting v false; before = choice.waiting }
+
+-- each place still has an object, or 0
+pub places-with : (cells : List ℕ) (v x n : ℕ) → v < length cells → x < n → ((u : ℕ) → slice_index cells u < max 1 n) → (u : ℕ) → slice_index (slice_set cells v x) u < max 1 n
+places-with cells v x n l lx all u = elim (cases_Bool (u == v)) [
+  | inl same ↦ (let at : slice_index (slice_set cells v x) u ≡ x = get_or-set_at cells v u x 0 (eqb-true u v same) l in omega (arith, at, lx))
+  | inr apart ↦ subst (λ (w : ℕ). w < max 1 n) (sym (get_or-set_other cells v u x 0 (λ at. both_ways (u == v) apart (eq-eqb u v at)))) (all u)
+]
 
 -- and so with that one chosen
 goes_on-with : (variables : List (Option ℕ)) (choice : Choice) (v x : ℕ) (t : List ℕ) → v < length choice.places → GoesOn variables choice t → x ≡ given variables t v
@@ -197,6 +182,21 @@ module _ (p : Problem) (s : State) (q k j : ℕ) where
         | inl same ↦ rw same (ap not (subst (λ (w : ℕ). is_open p s clause.variables (given clause.variables t) (literal_at clause w) ≡ true) (sym (eqb-true i j same)) parts.ready))
         | inr apart ↦ rw apart (ap not (each-from_others p s clause.variables j 0 (given clause.variables t) clause.literals parts.others i i l (omega arith) apart))
       ]
+
+  -- nothing is forced where the literal is never open, or the predicate can't be denied
+  pub never_open : ((places : Assignment) → is_open p s clause.variables places (literal_at clause j) ≡ false) → (t : List ℕ) → passes t ≡ false
+  never_open closed t = elim (cases_Bool (passes t)) [
+    | inl h ↦ absurd (both_ways (is_open p s clause.variables (given clause.variables t) (literal_at clause j))
+        (closed (given clause.variables t)) (forced-parts p s q k j t h).ready)
+    | inr h ↦ h
+  ]
+
+  pub never_denied : is_deniable p q ≡ false → (t : List ℕ) → passes t ≡ false
+  never_denied none t = elim (cases_Bool (passes t)) [
+    | inl h ↦ absurd (both_ways (is_deniable p q) none
+        (deniable-from_asserted p q (origins_of s (take (predicate_at p.predicates q).arity t)) (forced-parts p s q k j t h).denied))
+    | inr h ↦ h
+  ]
 
   -- so nothing is forced where a literal fails with what is chosen
   pub hopeless : (choice : Choice) (i : ℕ) (t : List ℕ) → i < length clause.literals → names_unassigned choice.waiting (literal_at clause i) ≡ false

@@ -1,6 +1,7 @@
 //! What is asserted of predicates at objects, and the objects at which an assertion can break one.
 
 ghost use Rattle.std.specs.Prelude.{◌≡◌, ◌<◌, ◌≤◌, ◌+◌, ◌++◌, ◌∷◌, ℕ, All, [], false, true, length, OnOk};
+ghost use Rattle.std.specs.List.{list_any};
 ghost use Rattle.rf_problem.specs.Asserted.{asserted, matches};
 ghost use Rattle.rf_problem.specs.Parts.{predicate_at};
 ghost use Rattle.rf_problem.specs.declared.symbol.Symbol.TheVariants.{Predicate as Defined};
@@ -66,12 +67,19 @@ fn denies(assertion: &Assertion, q: u32) -> bool
     speaks(assertion, q) && assertion.value == Truth::False
 }
 
+// Whether some of these says that the predicate doesn't hold.
+fn some_denies(assertions: &[Assertion], q: u32) -> bool
+    ensures { result ≡ list_any (denies q) assertions.now }
+{
+    assertions.iter().any(|a| denies(a, q))
+}
+
 /// Whether it can be asserted somewhere that a predicate doesn't hold.
 pub fn is_deniable(problem: &Problem, q: u32) -> bool
     requires { q < length problem.now.predicates }
     ensures { result ≡ is_deniable problem.now q }
 {
-    problem.predicate(q).is_error || problem.assertions.as_slice().iter().any(|a| denies(a, q))
+    problem.predicate(q).is_error || some_denies(problem.assertions.as_slice(), q)
 }
 
 // The objects that an argument of an assertion matches, perhaps among others.

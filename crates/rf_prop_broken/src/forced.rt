@@ -157,13 +157,23 @@ impl<'v, V: View> Target<'v, V> {
         Ok(())
     }
 
+    // Whether the literal may be forced at all: an edge can be, where it can be asserted that the predicate doesn't hold.
+    fn may_be_forced(&self) -> bool
+        ensures { result ≡ false → (t : List ℕ) → fires_at (V.problem self.now.view.now) (V.state self.now.view.now)
+            (Forced self.now.predicate self.now.clause self.now.literal) t ≡ false }
+    {
+        if !can_be_forced(self.literal_at(self.literal as usize)) {
+            return false;
+        }
+        is_deniable(self.view.problem(), self.predicate)
+    }
+
     // Considers the literal wherever it may be forced.
     fn consider(&self, alloc: Global, best: &mut Option<Objects>) -> Result<(), AllocError>
         ensures { OnOk result (Improves (fires_at (V.problem self.now.view.now) (V.state self.now.view.now)
             (Forced self.now.predicate self.now.clause self.now.literal)) (λ t. Unit {0}) best.old best.new) }
     {
-        let literal = self.literal_at(self.literal as usize);
-        if !can_be_forced(literal) || !is_deniable(self.view.problem(), self.predicate) {
+        if !self.may_be_forced() {
             return Ok(());
         }
         if self.view.objects() == 0 {
