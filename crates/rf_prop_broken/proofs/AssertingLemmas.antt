@@ -50,14 +50,13 @@ module _ (says : Truth → Bool) (silent : says Unknown ≡ false) (parts : (a b
   said-kept : (test : Assertion → Bool) (claims : List Assertion) → list_any says (map (λ a. a.value) (filter test claims)) ≡ true
       → list_any (λ a. test a && says a.value) claims ≡ true
   said-kept test [] h = h
-  said-kept test (a ∷ claims) h = go (test a) refl
-    where
-      go : (b : Bool) → test a ≡ b → list_any (λ x. test x && says x.value) (a ∷ claims) ≡ true
-      go true e = elim (or_cases (says a.value) (list_any says (map (λ x. x.value) (filter test claims))) (rw e at h)) [
-        | inl v ↦ or_left (test a && says a.value) (list_any (λ x. test x && says x.value) claims) (and_from (test a) (says a.value) e v)
-        | inr v ↦ or_right (test a && says a.value) (list_any (λ x. test x && says x.value) claims) (said-kept test claims v)
-      ]
-      go false e = or_right (test a && says a.value) (list_any (λ x. test x && says x.value) claims) (said-kept test claims (rw e at h))
+  said-kept test (a ∷ claims) h = elim (cases_Bool (test a)) [
+    | inl e ↦ elim (or_cases (says a.value) (list_any says (map (λ x. x.value) (filter test claims))) (rw e at h)) [
+      | inl v ↦ or_left (test a && says a.value) (list_any (λ x. test x && says x.value) claims) (and_from (test a) (says a.value) e v)
+      | inr v ↦ or_right (test a && says a.value) (list_any (λ x. test x && says x.value) claims) (said-kept test claims v)
+    ]
+    | inr e ↦ or_right (test a && says a.value) (list_any (λ x. test x && says x.value) claims) (said-kept test claims (rw e at h))
+  ]
 
   module _ (p : Problem) (q : ℕ) (t : List ℕ) where
     abbrev said_by : Assertion → Bool

@@ -8,3 +8,4 @@ pub mod FireLemmas
 pub mod LookingLemmas
 pub mod AssertingLemmas
 pub mod BrokenLemmas
+pub mod AffirmedLemmas

@@ -48,7 +48,7 @@ search-requires g t c κs within =
     let objects : (v : ℕ) → slice_index c.with-chosen.result.places v < max 1 n =
     subst (λ (d : ChoiceOf). (v : ℕ) → slice_index d.places v < max 1 n) (sym c.with-chosen.ensures)
     (places-with c.args.choice.now.places next.variable c.at.result n (omega (arith, long, is_next.few)) x c.requires.objects) in
-    (search (rules, fewer), (within.0, (within.1.0, (within.1.1, (c.loop-number.invariant.view, (c.requires.some, objects))))))
+    (search (rules, fewer), (within, (c.loop-number.invariant.view, (c.requires.some, objects))))
 
 pub loop-number-preserved : goal.loop-number-preserved
 loop-number-preserved g t c =
