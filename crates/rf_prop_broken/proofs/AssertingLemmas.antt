@@ -1,12 +1,14 @@
 -- Where assertions say that a predicate holds, or that it doesn't.
-use Rattle.std.proofs.Common.{◌≡◌, ◌⊎◌, ℕ, zero, suc, ◌+◌, ◌<◌, ◌≤◌, Bool, true, false, ◌&&◌, ◌||◌, if◌then◌else◌, Option, List, [], ◌∷◌, ◌++◌, All, length, map, take, filter, refl, sym, ap, ◌∙◌, subst, inl, inr, arith, true≢false, append_assoc, append-nil}
-use Rattle.std.specs.List.{list_any}
+use Rattle.std.proofs.Common.{◌≡◌, ◌⊎◌, ℕ, zero, suc, ◌+◌, ◌<◌, ◌≤◌, Bool, true, false, ◌&&◌, ◌||◌, if◌then◌else◌, Option, None, Some, List, [], ◌∷◌, ◌++◌, All, length, map, take, filter, refl, sym, ap, ◌∙◌, subst, inl, inr, arith, true≢false, append_assoc, append-nil}
+use Rattle.std.specs.List.{list_all, list_any}
 use Rattle.std.proofs.lemmas.Bool.{and_from, and_parts, both_ways, cases_Bool, cases_order, or_cases, or_left, or_right}
+use Rattle.std.proofs.lemmas.List.{length-take-le}
 use Rattle.rf_values.specs.Truth.{merge}
 use Rattle.rf_values.specs.declared.truth.Truth.{Truth}
 use Rattle.rf_values.specs.declared.truth.Truth.TheVariants.{True, False, Unknown, Error}
 use Rattle.rf_problem.specs.Asserted.{asserted, is_default, is_ordinary, match_each, matches, merge_all, merge_first, speaks_of, when}
 use Rattle.rf_problem.specs.Parts.{predicate_at, same_symbol}
+use Rattle.rf_problem.specs.Valid.{is_free}
 use Rattle.rf_problem.specs.declared.assertion.Assertion.{Assertion}
 use Rattle.rf_problem.specs.declared.problem.Problem.{Problem}
 use Rattle.rf_problem.specs.declared.symbol.Symbol.TheVariants.{Predicate as Defined}
@@ -229,3 +231,34 @@ module _ (passes : List ℕ → Bool) (s : State) (objects : List ℕ) where
 
         each : (t : List ℕ) → Matches s objects (arg ∷ args) t → MatchesAmong s objects args elements n t
         each t m = apart t m.rest m.same m.there m.matching
+
+-- arguments that are all `*` match any objects
+stars-match : (args : List (Option ℕ)) (t : List ℕ) → list_all is_free args ≡ true → length args ≡ length t → match_each args t ≡ true
+stars-match [] [] free e = refl
+stars-match [] (o ∷ t) free e = absurd (omega (arith, e))
+stars-match (Some a ∷ args) t free e = absurd (true≢false (sym free))
+stars-match (None ∷ args) [] free e = absurd (omega (arith, e))
+stars-match (None ∷ args) (o ∷ t) free e = stars-match args t free (omega (arith, e))
+
+stars-take : (n : ℕ) (args : List (Option ℕ)) → list_all is_free args ≡ true → list_all is_free (take n args) ≡ true
+stars-take zero args free = refl
+stars-take (suc n) [] free = refl
+stars-take (suc n) (None ∷ args) free = stars-take n args free
+stars-take (suc n) (Some a ∷ args) free = absurd (true≢false (sym free))
+
+abbrev pub any_four : List (Option ℕ)
+any_four = None ∷ None ∷ None ∷ None ∷ []
+
+pub matches-any : (passes : List ℕ → Bool) (s : State) (arity : ℕ) (objects : List ℕ) (o n : Option (List ℕ)) → arity ≤ 4 → objects ≡ []
+    → ((t : List ℕ) → passes t ≡ true → All (λ x. x < length s.objects) t)
+    → Improves passes (Matches s objects (take arity any_four)) o n → Improves passes (λ t. length t ≡ arity) o n
+matches-any passes s arity objects o n few none below h = improves-weaker passes (Matches s objects (take arity any_four)) (λ t. length t ≡ arity) o n each h
+  where
+    each : (t : List ℕ) → length t ≡ arity → passes t ≡ true → Matches s objects (take arity any_four) t
+    each t many f = record {
+      rest = t;
+      same = ap (λ (xs : List ℕ). xs ++ t) (sym none);
+      there = below t f;
+      matching = stars-match (take arity any_four) (origins_of s t) (stars-take arity any_four refl)
+          (length-take-le arity any_four few ∙ (sym many ∙ sym (length-origins_of s t)));
+    }

@@ -87,14 +87,14 @@ module _ (p : Problem) (s : State) (q : ℕ) where
           let here : IsNotFalseAt p s q t = record { tuple = parts.tuple; nodes = nodes-of may t parts.tuple.below parts.there; value = other } in
           let found = (are.tuples.members t).1 here in
           let l = found.1 in
-          let long : length (tuples_of values) ≡ length values = length-map values in
+          let long : length (tuples_of values) ≡ length values = length-map values (λ (x : List ℕ × Truth). x.0) in
           (found.0, omega (arith, l, long, past), found.2)
 
   -- what is listed is a tuple of objects that are there
   pub listed-tuple : (values : List (List ℕ × Truth)) (i : ℕ) (e : List ℕ × Truth) → AreValues p s q values → i < length values → get_or values i e ≡ e
       → IsTuple (length s.objects) (predicate_at p.predicates q).arity e.0
   listed-tuple values i e are l at =
-      let long : length (tuples_of values) ≡ length values = length-map values in
+      let long : length (tuples_of values) ≡ length values = length-map values (λ (x : List ℕ × Truth). x.0) in
       let same : get_or (tuples_of values) i e.0 ≡ e.0 =
       get_or-map (λ (x : List ℕ × Truth). x.0) values i e e.0 l ∙ ap (λ (x : List ℕ × Truth). x.0) at in
       ((are.tuples.members e.0).0 (i, omega (arith, l, long), same)).tuple

@@ -1,5 +1,5 @@
 -- What a rule that fires asks for, part by part.
-use Rattle.std.proofs.Common.{◌≡◌, ℕ, ◌<◌, Bool, true, ◌&&◌, ◌==◌, nat_lt, List, [], ◌∷◌, All, length, take}
+use Rattle.std.proofs.Common.{◌≡◌, ℕ, ◌<◌, ◌≤◌, Bool, true, ◌&&◌, ◌==◌, nat_lt, Option, None, Some, List, [], ◌∷◌, All, length, take, arith}
 use Rattle.std.proofs.lemmas.Bool.{and_parts, eqb-true, ltb-true}
 use Rattle.std.proofs.lemmas.List.Elements.{All-cons, All-nil}
 use Rattle.rf_finite.specs.Tuples.{IsTuple}
@@ -14,6 +14,7 @@ use Rattle.rf_rules.specs.Effects.{has_effect, is_ready}
 use Rattle.rf_rules.specs.Predicates.{are_there, broken, clause_at, forced, free_count, given, is_open, literal_at, origins_of, others_hold}
 use Rattle.rf_rules.specs.Rules.{are_objects, is_called, is_literal, is_object}
 use Rattle.rf_rules.specs.Words.{is_error, is_false}
+use Rattle.rf_rules.proofs.PredicateLemmas.{few_variables}
 use Rattle.rf_prop_broken.specs.Best.{fires_at}
 use Rattle.rf_prop_broken.specs.declared.instances.Instances.TheVariants.{Broken, Forced}
 
@@ -72,3 +73,17 @@ forced-parts p s q k j t h =
       others = third.0;
       ready = third.1;
     }
+
+-- not more variables range over a clause than it has
+free_count-le : (entries : List (Option ℕ)) → free_count entries ≤ length entries
+free_count-le [] = omega arith
+free_count-le (None ∷ entries) = let l = free_count-le entries in omega arith
+free_count-le (Some i ∷ entries) = let l = free_count-le entries in omega arith
+
+pub forced-few : (p : Problem) (s : State) (q k j : ℕ) (t : List ℕ) → q < length p.predicates → k < length (predicate_at p.predicates q).clauses
+    → fires_at p s (Forced q k j) t ≡ true → length t ≤ 8
+forced-few p s q k j t lq lk h =
+    let many = (forced-parts p s q k j t h).tuple.many in
+    let free = free_count-le (clause_at p q k).variables in
+    let few = few_variables p q k lq lk in
+    omega (arith, many, free, few)

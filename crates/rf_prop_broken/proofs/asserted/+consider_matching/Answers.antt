@@ -11,7 +11,9 @@ returns-in_default g t c =
     let p = g.V.Facts.problem c.args.view.now in
     let s = g.V.Facts.state c.args.view.now in
     let passes = fires_at p s (Broken c.args.q) in
-    let none : c.args.args.now ≡ [] = search rules in
+    let h1 = c.split_first.ensures.cases in
+    let h2 = c.split_first.ensures.variant in
+    let none : c.args.args.now ≡ [] = ? in
     on_ok_weaker c.consider.result
     (λ h. subst (λ (args : List (Option ℕ)). Improves passes (Matches s c.args.objects args) c.args.best.now c.consider.new.best) (sym none)
     (matches-ended passes s c.args.objects c.args.best.now c.consider.new.best h)) c.consider.ensures

@@ -1,7 +1,10 @@
 use Rattle.std.proofs.Common.{rules, ◌≡◌, ◌<◌, ◌≤◌, Option, List, ℕ, get_or, length, sym, subst, ap, ◌∙◌, arith}
+use Rattle.std.proofs.lemmas.List.{take_all}
+use Rattle.rf_problem.specs.declared.assertion.Assertion.{Assertion}
+use Rattle.rf_problem.specs.declared.problem.Problem.{Problem as ProblemOf}
 use Rattle.rf_prop_broken.specs.Best.{Improves, fires_at}
 use Rattle.rf_prop_broken.specs.declared.instances.Instances.TheVariants.{Broken}
-use Rattle.rf_prop_broken.proofs.AffirmedLemmas.{affirmed-matching, affirmed-next, unaffirmed, unaffirmed-long}
+use Rattle.rf_prop_broken.proofs.AffirmedLemmas.{AreBy, affirmed-matching, affirmed-next, unaffirmed, unaffirmed-long}
 use Rattle.rf_prop_broken.proofs.asserted.consider_affirmed.Goals.{then-affirms+then-len-le4+in_ok-consider_matching, else-affirms, else-affirms-via-then-affirms+else-len-le4, else-affirms-via-else-affirms}
 use Rattle.rf_prop_broken.proofs.asserted.consider_affirmed.Goals as goal
 
@@ -31,4 +34,10 @@ loop-assertion-preserved g c =
     ]
 
 pub returns : goal.returns
-returns g c = ?
+returns g c =
+    let p = g.V.Facts.problem c.args.view.now in
+    let s = g.V.Facts.state c.args.view.now in
+    let claims = c.as_slice-assertion-items.result.now in
+    let all : claims ≡ p.assertions = c.as_slice-assertion-items.ensures ∙ ap (λ (x : ProblemOf). x.assertions) c.problem.ensures in
+    subst (λ (xs : List Assertion). Improves (fires_at p s (Broken c.args.q)) (AreBy p s c.args.q xs) c.args.best.now c.loop-assertion.best)
+    (take_all c.loop-assertion.assertion-index claims (omega (arith, c.loop-assertion-test.false)) ∙ all) c.loop-assertion.invariant
