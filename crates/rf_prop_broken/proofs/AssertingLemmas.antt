@@ -1,5 +1,5 @@
 -- Where assertions say that a predicate holds, or that it doesn't.
-use Rattle.std.proofs.Common.{◌≡◌, ◌⊎◌, ℕ, zero, suc, ◌+◌, ◌<◌, ◌≤◌, Bool, true, false, ◌&&◌, ◌||◌, if◌then◌else◌, Option, None, Some, List, [], ◌∷◌, ◌++◌, All, length, map, take, filter, refl, sym, ap, ◌∙◌, subst, inl, inr, arith, true≢false, append_assoc, append-nil}
+use Rattle.std.proofs.Common.{◌≡◌, ◌⊎◌, ℕ, zero, suc, ◌+◌, ◌<◌, ◌≤◌, Bool, true, false, ◌&&◌, if◌then◌else◌, Option, None, Some, List, [], ◌∷◌, ◌++◌, All, length, map, take, filter, refl, sym, ap, ◌∙◌, inl, inr, arith, true≢false, append_assoc, append-nil}
 use Rattle.std.specs.List.{list_all, list_any}
 use Rattle.std.proofs.lemmas.Bool.{and_from, and_parts, both_ways, cases_Bool, cases_order, or_cases, or_left, or_right}
 use Rattle.std.proofs.lemmas.List.{length-take-le}
@@ -12,13 +12,13 @@ use Rattle.rf_problem.specs.Valid.{is_free}
 use Rattle.rf_problem.specs.declared.assertion.Assertion.{Assertion}
 use Rattle.rf_problem.specs.declared.problem.Problem.{Problem}
 use Rattle.rf_problem.specs.declared.symbol.Symbol.TheVariants.{Predicate as Defined}
-use Rattle.rf_evaluate.specs.Elements.{AreBelow, count, element_at, includes}
+use Rattle.rf_evaluate.specs.Elements.{count, element_at, includes}
 use Rattle.rf_evaluate.specs.declared.elements.Elements.{Elements}
 use Rattle.rf_evaluate.proofs.Candidates.{number-of}
 use Rattle.rf_state.specs.State.{State, object_of}
 use Rattle.rf_rules.specs.Predicates.{origins_of}
 use Rattle.rf_rules.specs.Words.{is_false}
-use Rattle.rf_prop_broken.specs.Asserting.{Matches, affirms, denies, has_true, is_affirmed, is_affirmed_by, is_deniable}
+use Rattle.rf_prop_broken.specs.Asserting.{Matches, denies, has_true, is_affirmed, is_deniable}
 use Rattle.rf_prop_broken.specs.Best.{Improves}
 use Rattle.rf_prop_broken.proofs.BestLemmas.{improves-none, improves-then, improves-weaker}
 
@@ -90,12 +90,12 @@ module _ (says : Truth → Bool) (silent : says Unknown ≡ false) (parts : (a b
     said-asserted : says (asserted p (Defined q) t) ≡ true → (list_any says unwritten_values ≡ true) ⊎ (list_any said_by p.assertions ≡ true)
     said-asserted h = elim (said-first (map (λ a. a.value) (filter (is_ordinary (Defined q) t) p.assertions) ++ unwritten_values)
         (map (λ a. a.value) (filter (is_default (Defined q) t) p.assertions)) h) [
-      | inl first ↦ elim (any-appended says (map (λ a. a.value) (filter (is_ordinary (Defined q) t) p.assertions)) unwritten_values first) [
-        | inl a ↦ inr (any-weaker (λ a. is_ordinary (Defined q) t a && says a.value) said_by p.assertions ordinary (said-kept (is_ordinary (Defined q) t) p.assertions a))
-        | inr b ↦ inl b
-      ]
-      | inr other ↦ inr (any-weaker (λ a. is_default (Defined q) t a && says a.value) said_by p.assertions default (said-kept (is_default (Defined q) t) p.assertions other))
-    ]
+          | inl first ↦ elim (any-appended says (map (λ a. a.value) (filter (is_ordinary (Defined q) t) p.assertions)) unwritten_values first) [
+            | inl a ↦ inr (any-weaker (λ a. is_ordinary (Defined q) t a && says a.value) said_by p.assertions ordinary (said-kept (is_ordinary (Defined q) t) p.assertions a))
+            | inr b ↦ inl b
+          ]
+          | inr other ↦ inr (any-weaker (λ a. is_default (Defined q) t a && says a.value) said_by p.assertions default (said-kept (is_default (Defined q) t) p.assertions other))
+        ]
 
 has_true-parts : (a b : Truth) → has_true (merge a b) ≡ true → (has_true a ≡ true) ⊎ (has_true b ≡ true)
 has_true-parts True b h = inl refl
@@ -158,6 +158,10 @@ pub length-origins_of : (s : State) (t : List ℕ) → length (origins_of s t) �
 length-origins_of s [] = refl
 length-origins_of s (o ∷ t) = ap suc (length-origins_of s t)
 
+pub no_arguments : (args : List (Option ℕ)) → length args ≡ 0 → args ≡ []
+no_arguments [] e = refl
+no_arguments (a ∷ args) e = absurd (omega (arith, e))
+
 -- the list goes on from these objects with one of the first n elements, and then with objects that the arguments match
 pub record MatchesAmong (s : State) (objects : List ℕ) (args : List (Option ℕ)) (elements : Elements) (n : ℕ) (t : List ℕ) : Type 0 where
   pub number : ℕ
@@ -195,12 +199,12 @@ module _ (passes : List ℕ → Bool) (s : State) (objects : List ℕ) where
         each : (t : List ℕ) → MatchesAmong s objects args elements (i + 1) t → MatchesAmong s objects args elements i t ⊎ Matches s next args t
         each t m = elim (cases_order m.number i) [
           | inl same ↦ inr (record {
-              rest = m.rest;
-              same = m.same ∙ (ap (λ (k : ℕ). objects ++ element_at elements k ∷ m.rest) same
-                  ∙ (sym (append_assoc objects (element_at elements i ∷ []) m.rest) ∙ ap (λ (xs : List ℕ). xs ++ m.rest) (sym is)));
-              there = m.there;
-              matching = m.matching;
-            })
+            rest = m.rest;
+            same = m.same ∙ (ap (λ (k : ℕ). objects ++ element_at elements k ∷ m.rest) same
+                ∙ (sym (append_assoc objects (element_at elements i ∷ []) m.rest) ∙ ap (λ (xs : List ℕ). xs ++ m.rest) (sym is)));
+            there = m.there;
+            matching = m.matching;
+          })
           | inr apart ↦ elim apart [
             | inl l ↦ inl (record { number = m.number; among = l; rest = m.rest; same = m.same; there = m.there; matching = m.matching })
             | inr after ↦ (let l = m.among in absurd (omega (arith, l, after)))

@@ -1,5 +1,5 @@
 -- What a rule that fires asks for, part by part.
-use Rattle.std.proofs.Common.{◌≡◌, ℕ, ◌<◌, ◌≤◌, Bool, true, ◌&&◌, ◌==◌, nat_lt, Option, None, Some, List, [], ◌∷◌, All, length, take, arith}
+use Rattle.std.proofs.Common.{◌≡◌, ℕ, ◌<◌, ◌≤◌, true, ◌&&◌, ◌==◌, nat_lt, Option, None, Some, List, [], ◌∷◌, All, length, take, arith}
 use Rattle.std.proofs.lemmas.Bool.{and_parts, eqb-true, ltb-true}
 use Rattle.std.proofs.lemmas.List.Elements.{All-cons, All-nil}
 use Rattle.rf_finite.specs.Tuples.{IsTuple}

@@ -1,14 +1,13 @@
 -- The search for objects at which a literal of a clause is forced.
-use Rattle.std.proofs.Common.{◌≡◌, ◌≢◌, ◌⊎◌, ℕ, zero, suc, ◌+◌, ◌<◌, ◌≤◌, Bool, true, false, not, ◌&&◌, ◌||◌, ◌==◌, nat_lt, if◌then◌else◌, Option, None, Some, List, [], ◌∷◌, ◌++◌, All, length, drop, take, get_or, max, refl, sym, ap, ap₂, ◌∙◌, subst, inl, inr, arith, true≢false, slice_set, lt-ltb}
+use Rattle.std.proofs.Common.{◌≡◌, ◌≢◌, ◌⊎◌, ℕ, zero, suc, ◌+◌, ◌<◌, ◌≤◌, Bool, true, false, not, ◌&&◌, ◌||◌, ◌==◌, nat_lt, if◌then◌else◌, Option, None, Some, List, [], ◌∷◌, All, length, take, get_or, max, refl, sym, ap, ap₂, ◌∙◌, subst, inl, inr, arith, true≢false, slice_set, lt-ltb}
 use Rattle.std.specs.Prelude.{IfSome, slice_index, slice_index_or}
-use Rattle.std.proofs.lemmas.Bool.{and_parts, both_ways, cases_Bool, cases_lt, cases_order, eq-eqb, eqb-true, ne_eqb, or_cases, or_parts}
+use Rattle.std.proofs.lemmas.Bool.{and_parts, both_ways, cases_Bool, cases_lt, cases_order, eq-eqb, eqb-true, or_cases, or_parts}
 use Rattle.std.proofs.lemmas.Grind.{get_or-set_at}
 use Rattle.std.proofs.lemmas.List.{get_or-set_other, get_or_past}
 use Rattle.rf_finite.specs.Ends.{within}
-use Rattle.rf_finite.specs.Tuples.{IsTuple}
 use Rattle.rf_values.specs.Truth.{may, must, truth_of}
 use Rattle.rf_values.specs.declared.truth.Truth.{Truth}
-use Rattle.rf_values.specs.declared.truth.Truth.TheVariants.{True, False, Unknown, Error}
+use Rattle.rf_values.specs.declared.truth.Truth.TheVariants.{False}
 use Rattle.rf_problem.specs.Parts.{predicate_at}
 use Rattle.rf_problem.specs.Reading.{Assignment, predicate_true}
 use Rattle.rf_problem.specs.Valid.{is_free}
@@ -19,13 +18,12 @@ use Rattle.rf_problem.specs.declared.predicate.Term.{Term}
 use Rattle.rf_problem.specs.declared.predicate.Term.TheVariants.{Var, Atom}
 use Rattle.rf_problem.specs.declared.problem.Problem.{Problem}
 use Rattle.rf_problem.specs.declared.symbol.Symbol.TheVariants.{Class, Reference, Predicate as Defined, Exists, Equals}
-use Rattle.rf_evaluate.specs.Elements.{AreBelow, count, element_at, includes}
+use Rattle.rf_evaluate.specs.Elements.{count, element_at}
 use Rattle.rf_evaluate.specs.Known.{side}
 use Rattle.rf_evaluate.specs.Terms.{is_unassigned, names_unassigned}
 use Rattle.rf_evaluate.specs.declared.elements.Elements.{Elements}
 use Rattle.rf_evaluate.specs.declared.elements.Elements.TheVariants.{Below}
 use Rattle.rf_evaluate.proofs.Candidates.{number-of}
-use Rattle.rf_evaluate.proofs.InBoth.{must-truth_of}
 use Rattle.rf_evaluate.proofs.Unassigned.{literal-same}
 use Rattle.rf_state.specs.State.{State, fact}
 use Rattle.rf_state.specs.StateKnown.{state_known}
@@ -130,7 +128,7 @@ module _ (p : Problem) (s : State) (q k j i : ℕ) (choice : Choice) (f : Assign
       let one = or_parts (is_unassigned choice.waiting t) (is_unassigned choice.waiting u || false) free in
       let two = or_parts (is_unassigned choice.waiting u) false one.1 in
       ap₂ (λ (a b : ℕ). (may_be_forced s variables_here negated t && may_be_forced s variables_here negated u)
-          && ((not (is_same_term t u) || not (within 2 (hi s a))) && is_unknown (fact p s r a b))) (same-term t one.0) (same-term u two.0)
+      && ((not (is_same_term t u) || not (within 2 (hi s a))) && is_unknown (fact p s r a b))) (same-term t one.0) (same-term u two.0)
   same-open (Call negated false (Reference r) []) free = refl
   same-open (Call negated false (Reference r) (t ∷ [])) free = refl
   same-open (Call negated false (Reference r) (t ∷ u ∷ w ∷ args)) free = refl

@@ -2,7 +2,6 @@
 -- The search for objects at which a literal of a clause is forced.
 use Rattle.std.specs.Prelude.{◌≡◌, ◌≢◌, ◌<◌, ◌≤◌, ℕ, suc, Bool, true, false, ◌==◌, not, if◌then◌else◌, Option, None, Some, List, [], ◌∷◌, length, slice_index, slice_index_or}
 use Rattle.rf_values.specs.Truth.{must as has_to}
-use Rattle.rf_values.specs.declared.truth.Truth.{Truth}
 use Rattle.rf_values.specs.declared.truth.Truth.TheVariants.{False}
 use Rattle.rf_problem.specs.Parts.{predicate_at}
 use Rattle.rf_problem.specs.Reading.{Assignment}

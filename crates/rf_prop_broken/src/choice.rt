@@ -81,9 +81,9 @@ impl Choice {
     pub fn with(&self, variable: usize, object: u64) -> Choice
         requires { variable < 8 }
         ensures { result ≡ record {
-            places = slice_set self.now.places variable object;
-            waiting = slice_set self.now.waiting variable false;
-            before = self.now.waiting;
+          places = slice_set self.now.places variable object;
+          waiting = slice_set self.now.waiting variable false;
+          before = self.now.waiting;
         } }
     {
         let mut places = self.places;

@@ -77,9 +77,7 @@ pub fn consider<V: View>(
     requires { length objects ≤ most_of instances }
     ensures { OnOk result (Improves (fires_at (V.problem view.now) (V.state view.now) instances) (λ t. t ≡ objects) best.old best.new) }
 {
-    if comes_before(&objects, best)
-        && rf_rules::fires(alloc, view, &instances.rule_at(objects))?
-    {
+    if comes_before(&objects, best) && rf_rules::fires(alloc, view, &instances.rule_at(objects))? {
         *best = Some(objects);
     }
     Ok(())

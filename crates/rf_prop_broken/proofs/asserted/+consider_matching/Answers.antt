@@ -3,7 +3,7 @@ use Rattle.std.proofs.lemmas.Result.{on_ok_weaker}
 use Rattle.rf_prop_broken.specs.Asserting.{Matches}
 use Rattle.rf_prop_broken.specs.Best.{Improves, fires_at}
 use Rattle.rf_prop_broken.specs.declared.instances.Instances.TheVariants.{Broken}
-use Rattle.rf_prop_broken.proofs.AssertingLemmas.{matches-all, matches-ended, matches-next}
+use Rattle.rf_prop_broken.proofs.AssertingLemmas.{matches-all, matches-ended, matches-next, no_arguments}
 use Rattle.rf_prop_broken.proofs.asserted.+consider_matching.Goals as goal
 
 pub returns-in_default : goal.returns-in_default
@@ -11,9 +11,7 @@ returns-in_default g t c =
     let p = g.V.Facts.problem c.args.view.now in
     let s = g.V.Facts.state c.args.view.now in
     let passes = fires_at p s (Broken c.args.q) in
-    let h1 = c.split_first.ensures.cases in
-    let h2 = c.split_first.ensures.variant in
-    let none : c.args.args.now ≡ [] = ? in
+    let none = no_arguments c.args.args.now c.in_default.ensures.cases in
     on_ok_weaker c.consider.result
     (λ h. subst (λ (args : List (Option ℕ)). Improves passes (Matches s c.args.objects args) c.args.best.now c.consider.new.best) (sym none)
     (matches-ended passes s c.args.objects c.args.best.now c.consider.new.best h)) c.consider.ensures

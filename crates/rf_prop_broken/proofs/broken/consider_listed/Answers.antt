@@ -1,5 +1,4 @@
-use Rattle.std.proofs.Common.{rules, ◌≡◌, ◌<◌, ◌≤◌, List, length, get_or, sym, subst, ap, ◌∙◌, arith}
-use Rattle.rf_state.specs.Values.{AreValues}
+use Rattle.std.proofs.Common.{rules, ◌≡◌, ◌<◌, List, length, get_or, sym, subst, ◌∙◌, arith}
 use Rattle.rf_prop_broken.specs.Best.{Improves, fires_at}
 use Rattle.rf_prop_broken.specs.declared.instances.Instances.TheVariants.{Broken}
 use Rattle.rf_prop_broken.proofs.BrokenLemmas.{listed-all, listed-next, listed-tuple, listed-value, uncontradicted}

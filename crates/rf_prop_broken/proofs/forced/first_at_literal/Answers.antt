@@ -1,4 +1,4 @@
-use Rattle.std.proofs.Common.{◌≡◌, ◌≤◌, length, sym, subst, ap, ◌∙◌, tt}
+use Rattle.std.proofs.Common.{◌≤◌, length, sym, subst, ap, ◌∙◌}
 use Rattle.rf_rules.specs.Predicates.{clause_at, free_count}
 use Rattle.rf_prop_broken.specs.Best.{fires_at, rule_of_best}
 use Rattle.rf_prop_broken.specs.Kinds.{most_of}

@@ -1,4 +1,4 @@
-use Rattle.std.proofs.Common.{◌≡◌, ◌∙◌, sym, ap, true, false}
+use Rattle.std.proofs.Common.{◌∙◌, sym, ap}
 use Rattle.rf_rules.specs.Rules.{fires}
 use Rattle.rf_prop_broken.specs.Best.{fires_at}
 use Rattle.rf_prop_broken.proofs.BestLemmas.{improves-failed, improves-later, improves-taken}

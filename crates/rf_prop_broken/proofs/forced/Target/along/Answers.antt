@@ -1,8 +1,5 @@
 use Rattle.std.proofs.Common.{rules, ◌≡◌, ◌⊎◌, ◌∷◌, [], false, inl, inr, sym, ◌∙◌}
-use Rattle.rf_problem.specs.declared.predicate.Literal.TheVariants.{Call}
 use Rattle.rf_problem.specs.declared.predicate.Term.TheVariants.{Var}
-use Rattle.rf_problem.specs.declared.symbol.Symbol.TheVariants.{Reference}
-use Rattle.rf_rules.specs.Predicates.{clause_at, literal_at}
 use Rattle.rf_rules.proofs.PredicateLemmas.{HasReference-literal_at}
 use Rattle.rf_prop_broken.specs.Looking.{IsNext, Leads}
 use Rattle.rf_prop_broken.proofs.LookingLemmas.{IfSome-weaker, next-along}
