@@ -1,6 +1,11 @@
-pub mod InstanceLemmas
 pub mod FirstLemmas
 pub mod TouchLemmas
 pub mod RoundLemmas
 pub mod FarLemmas
 pub mod AfterLemmas
+pub mod BestLemmas
+pub mod FireLemmas
+pub mod LookingLemmas
+pub mod AssertingLemmas
+pub mod BrokenLemmas
+pub mod AffirmedLemmas

@@ -1,14 +1,15 @@
 //! The rules of a predicate, or of a literal of a clause, one at each list of objects.
 
-ghost use Rattle.std.specs.Prelude.{◌≡◌, ◌<◌, ◌≤◌, ◌+◌, ◌++◌, ◌∷◌, [], IfOk, length};
-ghost use Rattle.rf_finite.specs.Tuples.{first_tuple};
-ghost use Rattle.rf_pending.specs.Rows.{firing};
+ghost use Rattle.std.specs.Prelude.{◌≡◌, ◌<◌, ◌≤◌, ◌++◌, ◌∷◌, [], length, OnOk};
+ghost use Rattle.rf_prop_broken.specs.Best.{Improves, comes_before, fires_at, rule_of_best};
 ghost use Rattle.rf_prop_broken.specs.Kinds.{most_of, rule_of};
+ghost use Rattle.std.specs.Option.{ForSome};
 
 use rf_rules::Rule;
 use rf_state::View;
 use rf_values::{Objects, Tuple};
 use std::alloc::{AllocError, Global};
+use std::cmp::Ordering;
 
 /// The numbers that rules at all lists of objects have in common.
 #[derive(Clone, Copy, Debug)]
@@ -30,28 +31,21 @@ impl Instances {
             Instances::Forced(q, k, j) => Rule::Forced(q, k, j, objects),
         }
     }
+
+    /// The rule at the best list of objects, if there is one.
+    pub fn rule_at_best(self, best: Option<Objects>) -> Option<Rule>
+        requires { ForSome best (λ t. length t ≤ most_of self) }
+        ensures { result ≡ rule_of_best self best }
+    {
+        match best {
+            None => None,
+            Some(objects) => Some(self.rule_at(objects)),
+        }
+    }
 }
 
-// The rule at a list of objects, where it fires.
-fn firing_at<V: View>(
-    alloc: Global,
-    view: &V,
-    instances: Instances,
-    objects: Objects,
-) -> Result<Option<Rule>, AllocError>
-    requires { length objects ≤ most_of instances }
-    ensures { IfOk result (λ rule. rule ≡ firing (V.problem view.now) (V.state view.now) (rule_of instances objects)) }
-{
-    let rule = instances.rule_at(objects);
-    Ok(if rf_rules::fires(alloc, view, &rule)? {
-        Some(rule)
-    } else {
-        None
-    })
-}
-
-// The list with one object more.
-fn with(objects: Objects, o: u64) -> Objects
+/// The list with one object more.
+pub fn with(objects: Objects, o: u64) -> Objects
     requires { length objects < 8 }
     ensures { result ≡ objects ++ o ∷ [] }
 {
@@ -62,29 +56,29 @@ fn with(objects: Objects, o: u64) -> Objects
     Objects::of(&cells[..items.len() + 1])
 }
 
-/// The first rule that fires at a list that goes on from these objects with so many more. At an object that may
-/// have no node no such rule fires, so that none is looked for there.
-pub fn first_at<V: View>(
+// Whether a list of objects comes before the best one.
+fn comes_before(objects: &Objects, best: &Option<Objects>) -> bool
+    ensures { result ≡ comes_before objects.now best.now }
+{
+    match best {
+        None => true,
+        Some(first) => objects.as_slice().cmp(first.as_slice()) == Ordering::Less,
+    }
+}
+
+/// Makes a list of objects the best one where the rule fires there and it comes before the one so far.
+pub fn consider<V: View>(
     alloc: Global,
     view: &V,
     instances: Instances,
     objects: Objects,
-    more: usize,
-) -> Result<Option<Rule>, AllocError>
-    requires { length objects + more ≤ most_of instances }
-    ensures { IfOk result (λ rule. rule ≡ first_tuple (length (V.state view.now).objects) more objects
-        (λ t. firing (V.problem view.now) (V.state view.now) (rule_of instances t))) }
+    best: &mut Option<Objects>,
+) -> Result<(), AllocError>
+    requires { length objects ≤ most_of instances }
+    ensures { OnOk result (Improves (fires_at (V.problem view.now) (V.state view.now) instances) (λ t. t ≡ objects) best.old best.new) }
 {
-    if more == 0 {
-        return firing_at(alloc, view, instances, objects);
+    if comes_before(&objects, best) && rf_rules::fires(alloc, view, &instances.rule_at(objects))? {
+        *best = Some(objects);
     }
-    for o in 0..view.objects() {
-        if view.count(o).lo == 0 {
-            continue;
-        }
-        if let Some(rule) = first_at(alloc, view, instances, with(objects, o), more - 1)? {
-            return Ok(Some(rule));
-        }
-    }
-    Ok(None)
+    Ok(())
 }

@@ -7,12 +7,12 @@ ghost use Rattle.rf_rules.specs.Predicates.{clause_at, free_count};
 ghost use Rattle.rf_prop_broken.specs.Kinds.{first_of_predicate, least_of_predicates};
 ghost use Rattle.rf_prop_broken.specs.Pending.{first_at_literal, first_broken, first_forced, first_in_clause};
 
-use crate::instances::{Instances, first_at};
+use crate::broken::first_broken;
+use crate::forced::first_at_literal;
 use rf_pending::{Marks, Rows};
 use rf_problem::{Clause, Problem};
 use rf_rules::Rule;
 use rf_state::View;
-use rf_values::Objects;
 use std::alloc::{AllocError, Global};
 
 /// A kind of rule.
@@ -35,46 +35,6 @@ fn clause_of(problem: &Problem, q: u32, k: u32) -> &Clause
     ensures { result.now ≡ clause_at problem.now q k }
 {
     &problem.predicate(q).clauses[k as usize]
-}
-
-// How many variables range over a clause.
-fn free_count(variables: &[Option<u8>]) -> usize
-    ensures { result ≡ free_count variables.now }
-{
-    let mut count = 0;
-    for entry in variables {
-        if entry.is_none() {
-            count += 1;
-        }
-    }
-    count
-}
-
-// The first tuple at which a predicate is broken.
-fn first_broken<V: View>(alloc: Global, view: &V, q: u32) -> Result<Option<Rule>, AllocError>
-    requires { q < length (V.problem view.now).predicates }
-    ensures { IfOk result (λ rule. rule ≡ first_broken (V.problem view.now) (V.state view.now) q) }
-{
-    let arity = view.problem().predicate(q).arity as usize;
-    first_at(alloc, view, Instances::Broken(q), Objects::of(&[]), arity)
-}
-
-// The first objects at which a literal is forced.
-fn first_at_literal<V: View>(
-    alloc: Global,
-    view: &V,
-    q: u32,
-    k: u32,
-    j: u32,
-) -> Result<Option<Rule>, AllocError>
-    requires predicate { q < length (V.problem view.now).predicates }
-    requires clause { k < length (predicate_at (V.problem view.now).predicates q).clauses }
-    ensures { IfOk result (λ rule. rule ≡ first_at_literal (V.problem view.now) (V.state view.now) q k j) }
-{
-    let clause = clause_of(view.problem(), q, k);
-    let free = free_count(clause.variables.as_slice());
-    let instances = Instances::Forced(q, k, j);
-    first_at(alloc, view, instances, Objects::of(&[]), free)
 }
 
 // The first literal of a clause that is forced.
