@@ -128,7 +128,11 @@ impl Case {
         match reads {
             Reads::Count(count) => *count,
             Reads::File(name) => {
-                match self.files.iter().find(|file| file.0.as_str() == name.as_str()) {
+                match self
+                    .files
+                    .iter()
+                    .find(|file| file.0.as_str() == name.as_str())
+                {
                     Some(file) => calls_for(file.1.as_slice(), step).saturating_add(1),
                     None => 1,
                 }
