@@ -1,11 +1,6 @@
 //! What the propagators find beside what a scan does.
 
 ghost use Rattle.rf_search.specs.Pending.{Covers};
-ghost use Rattle.rf_prop_type.specs.Pending.{Covers as CoversTypes};
-ghost use Rattle.rf_prop_mult.specs.Pending.{Covers as CoversDegrees};
-ghost use Rattle.rf_prop_contain.specs.Pending.{Covers as CoversContainment};
-ghost use Rattle.rf_prop_scope.specs.Pending.{Covers as CoversScopes};
-ghost use Rattle.rf_prop_broken.specs.Pending.{Covers as CoversPredicates};
 
 use crate::scanned::Scanned;
 use rf_search::Pending;

@@ -18,14 +18,16 @@ use std::process::Abort;
 
 // Classes that extend others, opposites, ranges, scopes and objects of several nodes.
 const OPPOSITES: &str = "
-abstract class N. class A extends N { B[1..2] r opposite s N[] t } class B extends N { A[0..1] s opposite r refers A[2..*] u }
+abstract class N. class A extends N { B[1..2] r opposite s N[] t }
+class B extends N { A[0..1] s opposite r refers A[2..*] u }
 A(a). B(b). N(n). multi m = 0..3. B(m). r(a, b). ?r(a, m). !t(a, n).
 scope node = 3..7, A = 1..2, B += 1..3.
 error e(x) <-> r(x, y), !t(x, y).";
 
 // References that contain, one of them both ways.
 const CONTAINMENT: &str = "
-class R { contains C[1..2] c opposite o } class C { container R o opposite c contains C[0..1] next C[] back opposite back }
+class R { contains C[1..2] c opposite o }
+class C { container R o opposite c contains C[0..1] next C[] back opposite back }
 class D extends C, R. R(x). C(y). multi k = 0..2. C(k). !next(y, y). scope R = 1..2, D = 0.";
 
 // Predicates: negated, called, with closures of references and of predicates, and asserted.
@@ -37,7 +39,8 @@ error e(x) <-> r+(x, x). error f(x, y) <-> p(x, y), q(y), x != y. error g() <-> 
 // Literals of an enum, an atom, and references that contain.
 const ENUMS: &str = "
 enum E { red, blue } atom zed. class C { E[1] e contains C[] c } C(x). C(zed). e(x, red). !c(x, zed).
-error bad(x) <-> e(x, red), c(x, y), !e(y, blue). error lone(x) <-> C(x), !c(_, x), x != zed. pred w(C x) <-> e(x, w), w == red.";
+error bad(x) <-> e(x, red), c(x, y), !e(y, blue). error lone(x) <-> C(x), !c(_, x), x != zed.
+pred w(C x) <-> e(x, w), w == red.";
 
 // Compares, and makes a step.
 fn turn<E: Edit>(
