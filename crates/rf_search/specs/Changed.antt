@@ -1,4 +1,3 @@
--- Private: no public contract cites this.
 -- What an effect changes.
 use Rattle.rf_pending.specs.declared.change.Change.{Change}
 use Rattle.rf_pending.specs.declared.change.Change.TheVariants.{Candidates, Count, Fact}

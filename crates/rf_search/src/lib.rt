@@ -11,6 +11,7 @@ mod settling;
 mod sides;
 mod untried;
 
+pub use changed::change_of;
 pub use generating::{Search, generate};
 pub use laws::{course_law, families_law, narrowing_law, outcome_law, right_law};
 pub use pending::{Pending, least, touch};

@@ -1,14 +1,16 @@
 //! A state in a map with versions beside a state of which each version is a copy.
 
-use crate::edits::edit;
-use crate::random::Random;
 use crate::same::{same, some_value};
 use rf_eval::Scratch;
 use rf_problem::Problem;
+use rf_random_edits::{Random, edit};
 use rf_state::State;
 use rf_vstate::{Versioned, Versions};
 use std::alloc::{AllocError, Global};
 use std::process::Abort;
+
+// The most objects that a state is given.
+const MOST: u64 = 12;
 
 /// The same state twice.
 #[derive(Drop)]
@@ -82,8 +84,9 @@ impl<'p> Both<'p> {
             2 | 3 | 4 | 5 => self.commit(alloc, rt),
             _ => {
                 let mut again = *random;
-                edit(alloc, &mut self.versioned, random)?;
-                edit(alloc, &mut self.plain, &mut again)
+                edit(alloc, &mut self.versioned, random, MOST)?;
+                edit(alloc, &mut self.plain, &mut again, MOST)?;
+                Ok(())
             }
         }
     }

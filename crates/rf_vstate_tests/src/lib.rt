@@ -4,10 +4,6 @@
 #[cfg(test)]
 mod both;
 #[cfg(test)]
-mod edits;
-#[cfg(test)]
-mod random;
-#[cfg(test)]
 mod same;
 #[cfg(test)]
 mod scripts;

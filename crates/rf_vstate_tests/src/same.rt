@@ -2,7 +2,7 @@
 
 ghost use Rattle.std.specs.Prelude.{◌≤◌, ◌<◌, length};
 
-use crate::random::Random;
+use rf_random_edits::Random;
 use rf_state::{Facts, View};
 use rf_values::{Truth, Tuple};
 use std::alloc::{AllocError, Global};

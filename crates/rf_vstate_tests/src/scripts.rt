@@ -1,8 +1,8 @@
 //! Scripts of edits, commits and goings back, in no order that one can see.
 
 use crate::both::Both;
-use crate::random::Random;
 use rf_problem::Problem;
+use rf_random_edits::Random;
 use rf_source::read_source;
 use std::alloc::{AllocError, Global};
 use std::process::Abort;
