@@ -1,0 +1,10 @@
+pub mod Elements
+pub mod Walking
+pub mod Clauses
+pub mod Staying
+pub mod Renewing
+pub mod Editing
+pub mod Resting
+pub mod Growing
+pub mod Freshness
+pub mod Comparing
