@@ -31,7 +31,8 @@ own_pair : (a b : ℕ) → match_each (Some a ∷ Some b ∷ []) (a ∷ b ∷ []
 own_pair a b = and_from (a == a) (b == b && true) (eq-eqb a a refl) (and_from (b == b) true (eq-eqb b b refl) refl)
 
 -- of two lists of at most one each, the second's
-second_in : (f g : Bool) (x y : Pattern) → g ≡ true → Contains ((if f then x ∷ [] else []) ++ (if g then y ∷ [] else [])) y
+second_in : (f g : Bool) (x y : Pattern) → g ≡ true → Contains
+    ((if f then x ∷ [] else []) ++ (if g then y ∷ [] else [])) y
 second_in true true x y e = (1, omega arith, refl)
 second_in false true x y e = (0, omega arith, refl)
 second_in f false x y e = absurd (true≢false (sym e))
@@ -65,13 +66,15 @@ module _ (p : Problem) (s : State) (r a b : ℕ) (v : Truth) (changes : Changes)
   IsListed q x y = match_some (changes.tuples (Reference q)) (x ∷ y ∷ []) ≡ true
 
   listed : (q x y : ℕ) → Contains (merged_pairs p r a b q) (Some x ∷ Some y ∷ []) → IsListed q x y
-  listed q x y c = list_any-from_one (λ pattern. match_each pattern (x ∷ y ∷ [])) (changes.tuples (Reference q)) (Some x ∷ Some y ∷ []) (has q (Some x ∷ Some y ∷ []) c) (own_pair x y)
+  listed q x y c = list_any-from_one (λ pattern. match_each pattern (x ∷ y ∷ [])) (changes.tuples (Reference q))
+      (Some x ∷ Some y ∷ []) (has q (Some x ∷ Some y ∷ []) c) (own_pair x y)
 
   there : (q : ℕ) → q ≡ r → IsListed q a b
   there q e = listed q a b (let same = eq-eqb r q (sym e) in rw same (0, omega arith, refl))
 
   back : (q : ℕ) → (reference_at p.references r).opposite ≡ Some q → IsListed q b a
-  back q e = listed q b a (second_in (r == q) (is_opposite (reference_at p.references r).opposite q) (Some a ∷ Some b ∷ []) (Some b ∷ Some a ∷ [])
+  back q e = listed q b a (second_in (r == q) (is_opposite (reference_at p.references r).opposite q)
+      (Some a ∷ Some b ∷ []) (Some b ∷ Some a ∷ [])
       (opposite-some (reference_at p.references r).opposite q e))
 
   -- what is known of an edge is as before, or its pair is among those of the changes
@@ -106,7 +109,8 @@ pub edge_is_covered : EdgeIsCovered
 edge_is_covered p s r a b v changes has = edge_covered p s r a b v changes has
 
 -- two states that are the same but for object o, which comes from the same object in both
-module _ (p : Problem) (s u : State) (o : ℕ) (same : AreSameButFor o s u) (origin : (object_of u o).origin ≡ (object_of s o).origin) where
+module _ (p : Problem) (s u : State) (o : ℕ) (same : AreSameButFor o s u)
+    (origin : (object_of u o).origin ≡ (object_of s o).origin) where
   -- what is told of an object is as before for each other
   at_others : (f : Object → Truth) (IsListed : ℕ → Type 0) → (f (object_of u o) ≡ f (object_of s o)) ⊎ IsListed o
       → (x : ℕ) → (f (object_of u x) ≡ f (object_of s x)) ⊎ IsListed x
@@ -131,36 +135,46 @@ module _ (p : Problem) (s u : State) (o : ℕ) (same : AreSameButFor o s u) (ori
       | inl g ↦ subst (λ z. (f (z == y) (object_of u z) ≡ f (z == y) (object_of s z)) ⊎ IsListed z y) (sym e)
           (subst (λ z. (f (o == z) (object_of u o) ≡ f (o == z) (object_of s o)) ⊎ IsListed o z) (sym g) own)
       | inr ne ↦ (let off : (x == y) ≡ false = ne_eqb x y (λ k. ne (sym k ∙ e)) in
-          inl (subst (λ b. f b (object_of u x) ≡ f b (object_of s x)) (sym off) (apart (object_of u x) (object_of s x))))
+          inl (subst (λ b. f b (object_of u x) ≡ f b (object_of s x)) (sym off)
+          (apart (object_of u x) (object_of s x))))
     ]
   ]
 
   -- edges are in range alike
-  edge-from_fact : (r x y : ℕ) → fact p u r x y ≡ fact p s r x y → (state_known p u).edge r x y ≡ (state_known p s).edge r x y
+  edge-from_fact : (r x y : ℕ) → fact p u r x y ≡ fact p s r x y → (state_known p u).edge r x y ≡
+      (state_known p s).edge r x y
   edge-from_fact r x y e = ap₂ (λ n w. if nat_lt x n && nat_lt y n then w else False) same.many e
 
-  pub object_covered : (changes : Changes) → HasCount (state_known p s) (state_known p u) o changes → HasCandidates (state_known p s) (state_known p u) o changes
-      → ((r x y : ℕ) → x ≢ o → y ≢ o → fact p u r x y ≡ fact p s r x y) → CoverFacts (state_known p s) (state_known p u) changes
+  pub object_covered : (changes : Changes) → HasCount (state_known p s) (state_known p u) o changes → HasCandidates
+      (state_known p s) (state_known p u) o changes
+      → ((r x y : ℕ) → x ≢ o → y ≢ o → fact p u r x y ≡ fact p s r x y) → CoverFacts (state_known p s)
+      (state_known p u) changes
   object_covered changes count candidates elsewhere = record {
     problem = refl;
     size = same.many;
     origins = λ x l. origin-same x;
-    presences = λ x l. at_others (λ z. truth_of (nat_le 1 z.count.lo) (within 1 z.count.hi)) (λ x. Contains changes.presences x) count.presence x;
-    classes = λ c x l. at_others (λ z. truth_of (all_below (length p.classes) (λ k. not (contains z.candidates k) || is_below p.classes k c))
+    presences = λ x l. at_others (λ z. truth_of (nat_le 1 z.count.lo) (within 1 z.count.hi))
+        (λ x. Contains changes.presences x) count.presence x;
+    classes = λ c x l. at_others (λ z. truth_of (all_below (length p.classes)
+        (λ k. not (contains z.candidates k) || is_below p.classes k c))
         (some_below (length p.classes) (λ k. contains z.candidates k && is_below p.classes k c)))
         (λ x. match_some (changes.tuples (Class c)) (x ∷ []) ≡ true) (candidates.classes c) x;
     edges = λ r x y lx ly. elim (cases_eq x o) [
-      | inl e ↦ subst (λ z. ((state_known p u).edge r z y ≡ (state_known p s).edge r z y) ⊎ (match_some (changes.tuples (Reference r)) (z ∷ y ∷ []) ≡ true))
+      | inl e ↦ subst (λ z. ((state_known p u).edge r z y ≡ (state_known p s).edge r z y) ⊎
+          (match_some (changes.tuples (Reference r)) (z ∷ y ∷ []) ≡ true))
           (sym e) (candidates.edges_from r y ly)
       | inr from ↦ elim (cases_eq y o) [
-        | inl e ↦ subst (λ z. ((state_known p u).edge r x z ≡ (state_known p s).edge r x z) ⊎ (match_some (changes.tuples (Reference r)) (x ∷ z ∷ []) ≡ true))
+        | inl e ↦ subst (λ z. ((state_known p u).edge r x z ≡ (state_known p s).edge r x z) ⊎
+            (match_some (changes.tuples (Reference r)) (x ∷ z ∷ []) ≡ true))
             (sym e) (candidates.edges_to r x lx)
         | inr to ↦ inl (edge-from_fact r x y (elsewhere r x y from to))
       ]
     ];
-    sames = λ x y lx ly. at_other_pairs (λ b z. truth_of (b && not (within 2 z.count.hi)) b) (λ x y. match_some changes.sames (x ∷ y ∷ []) ≡ true)
+    sames = λ x y lx ly. at_other_pairs (λ b z. truth_of (b && not (within 2 z.count.hi)) b)
+        (λ x y. match_some changes.sames (x ∷ y ∷ []) ≡ true)
         (λ z w. refl) count.same x y;
-    differences = λ x y lx ly. at_other_pairs (λ b z. truth_of (not b) (not b || within 2 z.count.hi)) (λ x y. match_some changes.differences (x ∷ y ∷ []) ≡ true)
+    differences = λ x y lx ly. at_other_pairs (λ b z. truth_of (not b) (not b || within 2 z.count.hi))
+        (λ x y. match_some changes.differences (x ∷ y ∷ []) ≡ true)
         (λ z w. refl) count.different x y;
   }
 
@@ -169,10 +183,14 @@ count_is_covered p s o count changes l has =
     let n = narrowing p s o count l in
     object_covered p s (narrowed s o count) o n.same (ap (λ z. z.origin) n.object) changes has
     record {
-      classes = λ c. inl (ap (λ z. truth_of (all_below (length p.classes) (λ k. not (contains z k) || is_below p.classes k c))
-          (some_below (length p.classes) (λ k. contains z k && is_below p.classes k c))) (ap (λ z. z.candidates) n.object));
-      edges_from = λ r y ly. inl (edge-from_fact p s (narrowed s o count) o n.same (ap (λ z. z.origin) n.object) r o y (n.facts r o y));
-      edges_to = λ r x lx. inl (edge-from_fact p s (narrowed s o count) o n.same (ap (λ z. z.origin) n.object) r x o (n.facts r x o));
+      classes = λ c. inl (ap (λ z. truth_of (all_below (length p.classes)
+          (λ k. not (contains z k) || is_below p.classes k c))
+          (some_below (length p.classes) (λ k. contains z k && is_below p.classes k c)))
+          (ap (λ z. z.candidates) n.object));
+      edges_from = λ r y ly. inl (edge-from_fact p s (narrowed s o count) o n.same
+          (ap (λ z. z.origin) n.object) r o y (n.facts r o y));
+      edges_to = λ r x lx. inl (edge-from_fact p s (narrowed s o count) o n.same (ap (λ z. z.origin) n.object) r x o
+          (n.facts r x o));
     }
     (λ r x y from to. n.facts r x y)
 

@@ -50,7 +50,8 @@ module _ (p : Problem) (s : State) (o : ℕ) (there : o < length s.objects) (cha
   is = fresh_is p s o there
 
   -- what an object keeps where it loses a node, it keeps everywhere
-  kept_of : {A : Type 0} (f : Object → A) → f (object_of after o) ≡ f (object_of s o) → (x : ℕ) → x < n → f (object_of after x) ≡ f (object_of s x)
+  kept_of : {A : Type 0} (f : Object → A) → f (object_of after o) ≡ f (object_of s o) → (x : ℕ) → x < n → f
+      (object_of after x) ≡ f (object_of s x)
   kept_of f own x l = elim (cases_eq x o) [
     | inl e ↦ subst (λ z. f (object_of after z) ≡ f (object_of s z)) (sym e) own
     | inr ne ↦ ap f (is.others x l ne)
@@ -69,18 +70,22 @@ module _ (p : Problem) (s : State) (o : ℕ) (there : o < length s.objects) (cha
   presence-or_listed x l = elim (below_or_last n x l) [
     | inr last ↦ inr (subst (λ z. Contains changes.presences z) (sym last) has.presence)
     | inl lx ↦ elim (cases_eq x o) [
-      | inr ne ↦ inl (ap (λ z. truth_of (nat_le 1 z.count.lo) (within 1 z.count.hi)) (is.others x lx ne) ∙ sym (presence-old (state_known p s) o x lx))
+      | inr ne ↦ inl (ap (λ z. truth_of (nat_le 1 z.count.lo) (within 1 z.count.hi)) (is.others x lx ne) ∙ sym
+          (presence-old (state_known p s) o x lx))
       | inl e ↦ elim has.count.presence [
-        | inl same ↦ inl (subst (λ z. now.presence z ≡ (state_known p s).presence z) (sym e) same ∙ sym (presence-old (state_known p s) o x lx))
+        | inl same ↦ inl (subst (λ z. now.presence z ≡ (state_known p s).presence z) (sym e) same ∙ sym
+            (presence-old (state_known p s) o x lx))
         | inr c ↦ inr (subst (λ z. Contains changes.presences z) (sym e) c)
       ]
     ]
   ]
 
-  class-or_listed : (c x : ℕ) → x < suc n → (now.class c x ≡ mid.class c x) ⊎ (match_some (changes.tuples (Class c)) (x ∷ []) ≡ true)
+  class-or_listed : (c x : ℕ) → x < suc n → (now.class c x ≡ mid.class c x) ⊎
+      (match_some (changes.tuples (Class c)) (x ∷ []) ≡ true)
   class-or_listed c x l = elim (below_or_last n x l) [
     | inr last ↦ inr (subst (λ z. match_some (changes.tuples (Class c)) (z ∷ []) ≡ true) (sym last) (has.classes c))
-    | inl lx ↦ inl (ap (λ (z : ClassSet). truth_of (all_below (length p.classes) (λ k. not (contains z k) || is_below p.classes k c))
+    | inl lx ↦ inl (ap (λ (z : ClassSet). truth_of
+        (all_below (length p.classes) (λ k. not (contains z k) || is_below p.classes k c))
         (some_below (length p.classes) (λ k. contains z k && is_below p.classes k c)))
         (kept_of (λ z. z.candidates) (ap (λ z. z.candidates) is.own) x lx))
   ]
@@ -94,11 +99,14 @@ module _ (p : Problem) (s : State) (o : ℕ) (there : o < length s.objects) (cha
       let to = lt-ltb y n ly in
       rw (fromx, tox, from, to) (is.facts r x y lx ly)
 
-  edge-or_listed : (r x y : ℕ) → x < suc n → y < suc n → (now.edge r x y ≡ mid.edge r x y) ⊎ (match_some (changes.tuples (Reference r)) (x ∷ y ∷ []) ≡ true)
+  edge-or_listed : (r x y : ℕ) → x < suc n → y < suc n → (now.edge r x y ≡ mid.edge r x y) ⊎
+      (match_some (changes.tuples (Reference r)) (x ∷ y ∷ []) ≡ true)
   edge-or_listed r x y l m = elim (below_or_last n x l) [
-    | inr last ↦ inr (subst (λ z. match_some (changes.tuples (Reference r)) (z ∷ y ∷ []) ≡ true) (sym last) (has.edges_from r y))
+    | inr last ↦ inr (subst (λ z. match_some (changes.tuples (Reference r)) (z ∷ y ∷ []) ≡ true) (sym last)
+        (has.edges_from r y))
     | inl lx ↦ elim (below_or_last n y m) [
-      | inr last ↦ inr (subst (λ z. match_some (changes.tuples (Reference r)) (x ∷ z ∷ []) ≡ true) (sym last) (has.edges_to r x))
+      | inr last ↦ inr (subst (λ z. match_some (changes.tuples (Reference r)) (x ∷ z ∷ []) ≡ true) (sym last)
+          (has.edges_to r x))
       | inl ly ↦ inl (edge-old r x y lx ly)
     ]
   ]
@@ -109,12 +117,14 @@ module _ (p : Problem) (s : State) (o : ℕ) (there : o < length s.objects) (cha
       → (x y : ℕ) → x < suc n → (f (x == y) (object_of after x) ≡ f (x == y) (object_of s x)) ⊎ IsListed x y
   pair-or_listed f IsListed apart own new x y l = elim (cases_eq x y) [
     | inr ne ↦ (let off : (x == y) ≡ false = ne_eqb x y ne in
-        inl (subst (λ b. f b (object_of after x) ≡ f b (object_of s x)) (sym off) (apart (object_of after x) (object_of s x))))
+        inl (subst (λ b. f b (object_of after x) ≡ f b (object_of s x)) (sym off)
+        (apart (object_of after x) (object_of s x))))
     | inl e ↦ subst (λ z. (f (x == z) (object_of after x) ≡ f (x == z) (object_of s x)) ⊎ IsListed x z) e
         (elim (below_or_last n x l) [
           | inr last ↦ inr (subst (λ z. IsListed z z) (sym last) new)
           | inl lx ↦ elim (cases_eq x o) [
-            | inl k ↦ subst (λ z. (f (z == z) (object_of after z) ≡ f (z == z) (object_of s z)) ⊎ IsListed z z) (sym k) own
+            | inl k ↦ subst (λ z. (f (z == z) (object_of after z) ≡ f (z == z) (object_of s z)) ⊎ IsListed z z)
+                (sym k) own
             | inr ne ↦ inl (ap (f (x == x)) (is.others x lx ne))
           ]
         ])
@@ -128,9 +138,11 @@ module _ (p : Problem) (s : State) (o : ℕ) (there : o < length s.objects) (cha
     presences = presence-or_listed;
     classes = class-or_listed;
     edges = edge-or_listed;
-    sames = λ x y lx ly. pair-or_listed (λ b z. truth_of (b && not (within 2 z.count.hi)) b) (λ x y. match_some changes.sames (x ∷ y ∷ []) ≡ true)
+    sames = λ x y lx ly. pair-or_listed (λ b z. truth_of (b && not (within 2 z.count.hi)) b)
+        (λ x y. match_some changes.sames (x ∷ y ∷ []) ≡ true)
         (λ z w. refl) has.count.same has.same x y lx;
-    differences = λ x y lx ly. pair-or_listed (λ b z. truth_of (not b) (not b || within 2 z.count.hi)) (λ x y. match_some changes.differences (x ∷ y ∷ []) ≡ true)
+    differences = λ x y lx ly. pair-or_listed (λ b z. truth_of (not b) (not b || within 2 z.count.hi))
+        (λ x y. match_some changes.differences (x ∷ y ∷ []) ≡ true)
         (λ z w. refl) has.count.different has.different x y lx;
   }
 
@@ -147,7 +159,8 @@ below-without_last n (x ∷ t) below none zero l =
       | inr last ↦ absurd (both_ways (x == n) parts.0 (eq-eqb x n last))
     ]
 below-without_last n (x ∷ t) below none (suc i) l =
-    below-without_last n t (λ j m. below (suc j) (omega arith)) (or_parts (x == n) (list_any (λ x. x == n) t) none).1 i (omega arith)
+    below-without_last n t (λ j m. below (suc j) (omega arith))
+    (or_parts (x == n) (list_any (λ x. x == n) t) none).1 i (omega arith)
 
 -- a number below the next bound that isn't the last is below the bound
 without_last : (n x : ℕ) → x < suc n → (x == n) ≡ false → x < n
@@ -166,20 +179,27 @@ renewed_over_fresh_is_right was now o changes done table c all right = record {
       elim (cases_Bool (list_any (λ x. x == was.size) t || may_change (grown was o) changes q t)) [
         | inl e ↦ rw e refl
         | inr e ↦ (let parts = or_parts (list_any (λ x. x == was.size) t) (may_change (grown was o) changes q t) e in
-            let was_tuple = tuple-from_below was.size arity t more_tuple.many (below-without_last was.size t (tuple_below (suc was.size) arity t more_tuple) parts.0) in
-            rw e (right.values q t was_tuple ∙ (sym (value-grown was o q t was_tuple) ∙ sym (value-stays (grown was o) now changes done c q t (all.predicates q) more_tuple parts.1))))
+            let was_tuple = tuple-from_below was.size arity t more_tuple.many
+            (below-without_last was.size t (tuple_below (suc was.size) arity t more_tuple) parts.0) in
+            rw e (right.values q t was_tuple ∙ (sym (value-grown was o q t was_tuple) ∙ sym
+            (value-stays (grown was o) now changes done c q t (all.predicates q) more_tuple parts.1))))
       ]);
   walks = λ symbol x y walked lx ly. (
-      let was_walked : is_walked was.problem symbol ≡ true = subst (λ p. is_walked p symbol ≡ true) c.facts.problem walked in
+      let was_walked : is_walked was.problem symbol ≡ true = subst
+      (λ p. is_walked p symbol ≡ true) c.facts.problem walked in
       let mx : x < suc was.size = subst (λ m. x < m) c.facts.size lx in
       let my : y < suc was.size = subst (λ m. y < m) c.facts.size ly in
       let steps = walked-steps was.problem symbol was_walked in
       elim (cases_Bool (x == was.size || (y == was.size || row_may_change (grown was o) changes symbol x))) [
         | inl e ↦ rw e refl
-        | inr e ↦ (let first = or_parts (x == was.size) (y == was.size || row_may_change (grown was o) changes symbol x) e in
+        | inr e ↦ (let first = or_parts (x == was.size)
+            (y == was.size || row_may_change (grown was o) changes symbol x) e in
             let second = or_parts (y == was.size) (row_may_change (grown was o) changes symbol x) first.1 in
             let nx = without_last was.size x mx first.0 in
             let ny = without_last was.size y my second.0 in
-            rw e (right.walks symbol x y was_walked nx ny ∙ (sym (walk-grown was o symbol x y steps nx ny) ∙ sym (walk-stays (grown was o) now changes done c symbol x y (all.walks symbol was_walked) steps mx my second.1))))
+            rw e (right.walks symbol x y was_walked nx ny ∙
+            (sym (walk-grown was o symbol x y steps nx ny) ∙ sym
+            (walk-stays (grown was o) now changes done c symbol x y
+            (all.walks symbol was_walked) steps mx my second.1))))
       ]);
 }

@@ -51,18 +51,24 @@ module _ (k : Known) (o : ℕ) where
     to_more : Follows k.problem (side column k) (side column more) Same
     to_more = record {
       classes = λ c x y l r m. subst (λ z. column (k.class c z) ≡ true) r.0 m;
-      edges = λ r x y u v l a b m. subst (λ z. column (k.edge r u z) ≡ true) b.0 (subst (λ z. column (k.edge r z y) ≡ true) a.0 m);
-      sames = λ x y u v a b m. subst (λ z. column (k.same u z) ≡ true) b.0 (subst (λ z. column (k.same z y) ≡ true) a.0 m);
-      differs = λ x y u v a b m. subst (λ z. column (k.different u z) ≡ true) b.0 (subst (λ z. column (k.different z y) ≡ true) a.0 m);
+      edges = λ r x y u v l a b m. subst (λ z. column (k.edge r u z) ≡ true) b.0
+          (subst (λ z. column (k.edge r z y) ≡ true) a.0 m);
+      sames = λ x y u v a b m. subst (λ z. column (k.same u z) ≡ true) b.0
+          (subst (λ z. column (k.same z y) ≡ true) a.0 m);
+      differs = λ x y u v a b m. subst (λ z. column (k.different u z) ≡ true) b.0
+          (subst (λ z. column (k.different z y) ≡ true) a.0 m);
       elements = λ x l m. (x, (refl, l), omega (arith, l), ap column (presence-old x l) ∙ m, origin-old x l);
     }
 
     from_more : Follows k.problem (side column more) (side column k) Turned
     from_more = record {
       classes = λ c x y l r m. subst (λ z. column (k.class c z) ≡ true) (sym r.0) m;
-      edges = λ r x y u v l a b m. subst (λ z. column (k.edge r u z) ≡ true) (sym b.0) (subst (λ z. column (k.edge r z y) ≡ true) (sym a.0) m);
-      sames = λ x y u v a b m. subst (λ z. column (k.same u z) ≡ true) (sym b.0) (subst (λ z. column (k.same z y) ≡ true) (sym a.0) m);
-      differs = λ x y u v a b m. subst (λ z. column (k.different u z) ≡ true) (sym b.0) (subst (λ z. column (k.different z y) ≡ true) (sym a.0) m);
+      edges = λ r x y u v l a b m. subst (λ z. column (k.edge r u z) ≡ true) (sym b.0)
+          (subst (λ z. column (k.edge r z y) ≡ true) (sym a.0) m);
+      sames = λ x y u v a b m. subst (λ z. column (k.same u z) ≡ true) (sym b.0)
+          (subst (λ z. column (k.same z y) ≡ true) (sym a.0) m);
+      differs = λ x y u v a b m. subst (λ z. column (k.different u z) ≡ true) (sym b.0)
+          (subst (λ z. column (k.different z y) ≡ true) (sym a.0) m);
       elements = λ x l m. elim (cases_lt x k.size) [
         | inl lx ↦ (x, (refl, lx), lx, ap column (sym (presence-old x lx)) ∙ m, sym (origin-old x lx))
         | inr ge ↦ (let last : x ≡ k.size = omega (arith, l, ge) in
@@ -78,18 +84,23 @@ module _ (k : Known) (o : ℕ) where
 
   module _ (column inner : Truth → Bool) (none : column False ≡ false) (inner_none : inner False ≡ false) where
     says-same : (q : ℕ) (t : List ℕ) → length t ≡ (predicate_at k.problem.predicates q).arity → Below k.size t
-        → says_of k.problem (side column more) (side inner more) q t ≡ says_of k.problem (side column k) (side inner k) q t
+        → says_of k.problem (side column more) (side inner more) q t ≡ says_of k.problem (side column k)
+        (side inner k) q t
     says-same q t len below =
         let n = length k.problem.predicates in
         let arity = (predicate_at k.problem.predicates q).arity in
-        same_tests (says_of k.problem (side column more) (side inner more) q t) (says_of k.problem (side column k) (side inner k) q t)
-        (λ h. predicates_carry_over k.problem Turned n (side column more) (side inner more) (side column k) (side inner k)
+        same_tests (says_of k.problem (side column more) (side inner more) q t)
+        (says_of k.problem (side column k) (side inner k) q t)
+        (λ h. predicates_carry_over k.problem Turned n (side column more) (side inner more) (side column k)
+        (side inner k)
         (from_more column none) (to_more inner inner_none) q t t (turned arity t len below) h)
-        (λ h. predicates_carry_over k.problem Same n (side column k) (side inner k) (side column more) (side inner more)
+        (λ h. predicates_carry_over k.problem Same n (side column k) (side inner k) (side column more)
+        (side inner more)
         (to_more column none) (from_more inner inner_none) q t t (related arity t len below) h)
 
     step-same : (symbol : Symbol) (t : List ℕ) → length t ≡ arity_of k.problem.predicates symbol → Below k.size t
-        → symbol_true (says_of k.problem) (side column more) (side inner more) symbol t ≡ symbol_true (says_of k.problem) (side column k) (side inner k) symbol t
+        → symbol_true (says_of k.problem) (side column more) (side inner more) symbol t ≡ symbol_true
+        (says_of k.problem) (side column k) (side inner k) symbol t
     step-same (Class c) t len below = refl
     step-same (Reference r) t len below = refl
     step-same (Predicate q) t len below = says-same q t len below
@@ -97,23 +108,32 @@ module _ (k : Known) (o : ℕ) where
     step-same Equals t len below = refl
 
     walks-lead : (symbol : Symbol) → has_steps k.problem.predicates symbol ≡ true → (x y : ℕ) → x < k.size → y < k.size
-        → walk_below (λ a b. symbol_true (says_of k.problem) (side column more) (side inner more) symbol (a ∷ b ∷ [])) (λ z. column (more.presence z)) (suc k.size) x y
-        ≡ walk_below (λ a b. symbol_true (says_of k.problem) (side column k) (side inner k) symbol (a ∷ b ∷ [])) (λ z. column (k.presence z)) k.size x y
+        → walk_below (λ a b. symbol_true (says_of k.problem) (side column more) (side inner more) symbol
+        (a ∷ b ∷ [])) (λ z. column (more.presence z)) (suc k.size) x y
+        ≡ walk_below (λ a b. symbol_true (says_of k.problem) (side column k) (side inner k) symbol (a ∷ b ∷ []))
+        (λ z. column (k.presence z)) k.size x y
     walks-lead symbol steps x y lx ly =
         let last : column (more.presence k.size) ≡ false = ap column presence-new ∙ none in
         let two = steps_two k.problem.predicates symbol steps in
         without_last _ (column (more.presence k.size)) _ last
-        ∙ walk_below-same (λ a b. symbol_true (says_of k.problem) (side column more) (side inner more) symbol (a ∷ b ∷ []))
-        (λ a b. symbol_true (says_of k.problem) (side column k) (side inner k) symbol (a ∷ b ∷ [])) (λ z. column (more.presence z)) (λ z. column (k.presence z)) k.size
-        (λ a b la lb. step-same symbol (a ∷ b ∷ []) (sym two) (two_below k.size a b la lb)) (λ a la. ap column (presence-old a la)) k.size x y (omega arith) lx ly
+        ∙ walk_below-same (λ a b. symbol_true (says_of k.problem) (side column more) (side inner more) symbol
+        (a ∷ b ∷ []))
+        (λ a b. symbol_true (says_of k.problem) (side column k) (side inner k) symbol (a ∷ b ∷ []))
+        (λ z. column (more.presence z)) (λ z. column (k.presence z)) k.size
+        (λ a b la lb. step-same symbol (a ∷ b ∷ []) (sym two) (two_below k.size a b la lb))
+        (λ a la. ap column (presence-old a la)) k.size x y (omega arith) lx ly
 
-  pub value-grown : (q : ℕ) (t : List ℕ) → IsTuple k.size (predicate_at k.problem.predicates q).arity t → value_of more (Predicate q) t ≡ value_of k (Predicate q) t
+  pub value-grown : (q : ℕ) (t : List ℕ) → IsTuple k.size (predicate_at k.problem.predicates q).arity t
+      → value_of more (Predicate q) t ≡ value_of k (Predicate q) t
   value-grown q t tuple =
       let below = tuple_below k.size (predicate_at k.problem.predicates q).arity t tuple in
-      ap₂ truth_of (says-same must may refl refl q t tuple.many below) (says-same may must refl refl q t tuple.many below)
+      ap₂ truth_of (says-same must may refl refl q t tuple.many below)
+      (says-same may must refl refl q t tuple.many below)
 
-  pub walk-grown : (symbol : Symbol) (x y : ℕ) → has_steps k.problem.predicates symbol ≡ true → x < k.size → y < k.size → walk_of more symbol x y ≡ walk_of k symbol x y
-  walk-grown symbol x y steps lx ly = ap₂ truth_of (walks-lead must may refl refl symbol steps x y lx ly) (walks-lead may must refl refl symbol steps x y lx ly)
+  pub walk-grown : (symbol : Symbol) (x y : ℕ) → has_steps k.problem.predicates symbol ≡ true → x < k.size
+      → y < k.size → walk_of more symbol x y ≡ walk_of k symbol x y
+  walk-grown symbol x y steps lx ly = ap₂ truth_of (walks-lead must may refl refl symbol steps x y lx ly)
+      (walks-lead may must refl refl symbol steps x y lx ly)
 
 pub grown_says_the_same : GrownSaysTheSame
 grown_says_the_same k o q t tuple = value-grown k o q t tuple

@@ -1,6 +1,22 @@
 //! What holds of values that are kept over an edit, each law as the contract of a function that does nothing.
 
-ghost use Rattle.rf_renewal.specs.Laws.{CandidatesAreCovered, CountIsCovered, EdgeIsCovered, FactsCoverNothingDone, FreshIsCovered, GrownLeadsTheSame, GrownSaysTheSame, PredicateIsCovered, RenewedIsRight, RenewedOverFreshIsRight, SymbolIsCovered, UnrelatedValuesStay, UnrelatedWalksStay, ValuesStay, WalksStay};
+ghost use Rattle.rf_renewal.specs.Laws.{
+  CandidatesAreCovered,
+  CountIsCovered,
+  EdgeIsCovered,
+  FactsCoverNothingDone,
+  FreshIsCovered,
+  GrownLeadsTheSame,
+  GrownSaysTheSame,
+  PredicateIsCovered,
+  RenewedIsRight,
+  RenewedOverFreshIsRight,
+  SymbolIsCovered,
+  UnrelatedValuesStay,
+  UnrelatedWalksStay,
+  ValuesStay,
+  WalksStay,
+};
 
 /// Where the changes cover what is known otherwise than before, a predicate says the same as before at each
 /// tuple that the filter leaves out, and walks from an element that it leaves out lead to the same.
