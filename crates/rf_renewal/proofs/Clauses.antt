@@ -44,7 +44,7 @@ parameter_free (suc n) (entry ∷ variables) zero h l =
 parameter_free (suc n) (entry ∷ variables) (suc u) h l = parameter_free n variables u
     (and_parts (is_free entry) (list_all is_free (take n variables)) h).1 (omega arith)
 
-stands_inside : (variables : List (Option ℕ)) (i v : ℕ) → may_stand variables i true v ≡ true → IsFree variables v ⊎
+pub stands_inside : (variables : List (Option ℕ)) (i v : ℕ) → may_stand variables i true v ≡ true → IsFree variables v ⊎
     (is_chosen (is_entry i) variables 0 v ≡ true)
 stands_inside variables i v h =
     let parts = may_stand-parts variables i v true h in

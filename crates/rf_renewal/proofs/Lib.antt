@@ -8,3 +8,4 @@ pub mod Resting
 pub mod Growing
 pub mod Freshness
 pub mod Comparing
+pub mod Parameters

@@ -1,5 +1,5 @@
 -- What holds of values that are kept over an edit.
-use Rattle.std.specs.Prelude.{◌≡◌, ◌<◌, ℕ, Bool, true, false, List, length}
+use Rattle.std.specs.Prelude.{◌≡◌, ◌<◌, ℕ, Bool, true, false, List, length, slice_index}
 use Rattle.rf_finite.specs.Tuples.{IsTuple}
 use Rattle.rf_values.specs.declared.class_set.ClassSet.{ClassSet}
 use Rattle.rf_values.specs.declared.count.Count.{Count}
@@ -19,6 +19,13 @@ use Rattle.rf_renewal.specs.Edits.{HasCandidates, HasCount, HasMerged}
 use Rattle.rf_renewal.specs.Grown.{HasFresh, grown, renewed_over_fresh}
 use Rattle.rf_renewal.specs.Resting.{AreResting, walks_rest}
 use Rattle.rf_renewal.specs.Table.{IsAllReady, IsRight, Table, renewed}
+
+-- a predicate says the same at tuples that have the same elements for its parameters, whatever comes after them
+abbrev pub ParametersAreEnough : Type 0
+ParametersAreEnough =
+    (k : Known) (q : ℕ) (t u : List ℕ)
+    → ((i : ℕ) → i < (predicate_at k.problem.predicates q).arity → slice_index t i ≡ slice_index u i)
+    → value_of k (Predicate q) t ≡ value_of k (Predicate q) u
 
 -- where the changes cover what is known otherwise, a predicate whose clauses ask for nothing but what was compared
 -- says the same as before at each tuple that the filter leaves out

@@ -8,6 +8,7 @@ ghost use Rattle.rf_renewal.specs.Laws.{
   FreshIsCovered,
   GrownLeadsTheSame,
   GrownSaysTheSame,
+  ParametersAreEnough,
   PredicateIsCovered,
   RenewedIsRight,
   RenewedOverFreshIsRight,
@@ -36,6 +37,11 @@ pub fn compare_law()
 /// So values and walks that were kept are right again once those are renewed that the filter lets through.
 pub fn table_law()
     ensures { RenewedIsRight }
+{}
+
+/// What a predicate says depends on the elements of its parameters alone, so that a value is kept for these.
+pub fn parameter_law()
+    ensures { ParametersAreEnough }
 {}
 
 /// What an edit changes of what is known of objects and edges: a merge two edges, and what is narrowed, one

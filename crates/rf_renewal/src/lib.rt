@@ -3,4 +3,4 @@
 
 mod laws;
 
-pub use laws::{compare_law, edit_law, fresh_law, kept_law, rest_law, table_law};
+pub use laws::{compare_law, edit_law, fresh_law, kept_law, parameter_law, rest_law, table_law};
