@@ -144,6 +144,25 @@ module _ {A : Type 0} where
   kept-there f (m ∷ ms) zero y l e = e
   kept-there f (m ∷ ms) (suc v) y l e = kept-there f ms v y (omega (arith, l)) e
 
+  list-none : (m : Mark) → let none : List (Change A) = [] in let empty : List A = [] in list_at none empty m ≡ empty
+  list-none m = cut-none m.length m.changes
+    where
+      cut-none : (n k : ℕ) → let none : List (Change A) = [] in let empty : List A = [] in take n (undone (drop k none) empty) ≡ empty
+      cut-none zero zero = refl
+      cut-none zero (suc k) = refl
+      cut-none (suc n) zero = refl
+      cut-none (suc n) (suc k) = refl
+
+  -- nothing is kept of a list without items
+  pub kept-none : (ms : List Mark) (v : ℕ) → let none : List (Change A) = [] in let empty : List A = [] in get_or (map (list_at none empty) ms) v empty ≡ empty
+  kept-none [] v = refl
+  kept-none (m ∷ ms) zero = list-none m
+  kept-none (m ∷ ms) (suc v) = kept-none ms v
+
+pub take-nothing : {X : Type 0} → (xs : List X) → take 0 xs ≡ []
+take-nothing [] = refl
+take-nothing (x ∷ xs) = refl
+
 -- after going back to mark number v
 pub marks-back : (many short : ℕ) (ms : List Mark) (v : ℕ) → AreMarks many short ms → v < length ms
     → AreMarks (mark_at ms v).changes (mark_at ms v).length (take (v + 1) ms)

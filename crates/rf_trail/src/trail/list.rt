@@ -1,9 +1,10 @@
 //! What is read of the list, and its changes.
 
-ghost use Rattle.std.specs.Prelude.{◌≡◌, ◌++◌, ◌∷◌, [], length, set, slice_get, OnErr, OnOk};
+ghost use Rattle.std.specs.Prelude.{◌≡◌, ◌<◌, ◌++◌, ◌∷◌, ℕ, [], length, set, slice_get, slice_index_or, OnErr, OnOk};
+ghost use Rattle.rf_trail.specs.Marks.{mark_at, no_mark};
 ghost use Rattle.rf_trail.specs.Trail.{items, kept};
 
-use super::{Change, Trail};
+use super::{Change, Mark, Trail};
 use std::alloc::{AllocError, Global};
 
 impl<T: Copy> Trail<T> {
@@ -58,5 +59,29 @@ impl<T: Copy> Trail<T> {
             self.items[place] = item;
         }
         Ok(())
+    }
+
+    /// Takes all items away, from the lists that are kept too. Takes no memory.
+    pub fn clear(&mut self)
+        ensures items { items self.new ≡ [] }
+        ensures many { length (kept self.new) ≡ length (kept self.old) }
+        ensures kept { (v : ℕ) → slice_index_or (kept self.new) v [] ≡ [] }
+    {
+        self.items.truncate(0);
+        self.changes.truncate(0);
+        forget_all(&mut self.marks);
+    }
+}
+
+// Makes each mark one of no change and no item.
+fn forget_all(marks: &mut Vec<Mark>)
+    ensures many { length marks.new.items ≡ length marks.old.items }
+    ensures none { (i : ℕ) → i < length marks.new.items → mark_at marks.new.items i ≡ no_mark }
+{
+    for i in 0..marks.len() {
+        marks[i] = Mark {
+            changes: 0,
+            length: 0,
+        };
     }
 }
