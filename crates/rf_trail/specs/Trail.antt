@@ -1,5 +1,5 @@
 -- The list that a trail is, and those that it keeps.
-use Rattle.std.specs.Prelude.{List, [], ◌∷◌, map, take, drop, set}
+use Rattle.std.specs.Prelude.{◌≡◌, ℕ, ◌<◌, ◌≤◌, List, [], ◌∷◌, length, map, take, drop, set, slice_index_or}
 use Rattle.rf_trail.specs.declared.trail.Change.{Change}
 use Rattle.rf_trail.specs.declared.trail.Mark.{Mark}
 use Rattle.rf_trail.specs.declared.trail.Trail.{Trail}
@@ -18,3 +18,10 @@ items t = t.items.items
 
 abbrev pub kept : {A : Type 0} → Trail A → List (List A)
 kept t = map (list_at t.changes.items t.items.items) t.marks.items
+
+-- none of the lists that are kept has anything that it hadn't
+pub record HaveNoMore {A : Type 0} (old new : List (List A)) : Type 0 where
+  pub many : length new ≡ length old
+  pub few : (v : ℕ) → length (slice_index_or new v []) ≤ length (slice_index_or old v [])
+  pub same : (v k : ℕ) (none : A) → k < length (slice_index_or new v [])
+      → slice_index_or (slice_index_or new v []) k none ≡ slice_index_or (slice_index_or old v []) k none

@@ -1,8 +1,8 @@
 //! What is read of the list, and its changes.
 
-ghost use Rattle.std.specs.Prelude.{◌≡◌, ◌<◌, ◌++◌, ◌∷◌, ℕ, [], length, set, slice_get, slice_index_or, OnErr, OnOk};
+ghost use Rattle.std.specs.Prelude.{◌≡◌, ◌<◌, ◌≤◌, ◌==◌, if◌then◌else◌, ◌++◌, ◌∷◌, ℕ, [], length, set, slice_get, slice_index_or, OnErr, OnOk};
 ghost use Rattle.rf_trail.specs.Marks.{mark_at, no_mark};
-ghost use Rattle.rf_trail.specs.Trail.{items, kept};
+ghost use Rattle.rf_trail.specs.Trail.{HaveNoMore, items, kept};
 
 use super::{Change, Mark, Trail};
 use std::alloc::{AllocError, Global};
@@ -59,6 +59,19 @@ impl<T: Copy> Trail<T> {
             self.items[place] = item;
         }
         Ok(())
+    }
+
+    /// Puts an item in the place of one, if there is one. Where memory runs out for the note of it, all items are taken
+    /// away, from the lists that are kept too.
+    pub fn put(&mut self, place: usize, item: T)
+        ensures few { length (items self.new) ≤ length (items self.old) }
+        ensures put { (k : ℕ) (none : T) → k < length (items self.new)
+            → slice_index_or (items self.new) k none ≡ (if k == place then item else slice_index_or (items self.old) k none) }
+        ensures kept { HaveNoMore (kept self.old) (kept self.new) }
+    {
+        if self.set(place, item).is_err() {
+            self.clear();
+        }
     }
 
     /// Takes all items away, from the lists that are kept too. Takes no memory.

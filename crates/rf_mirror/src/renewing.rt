@@ -1,0 +1,1 @@
+//! Cells renewed after an edit.
