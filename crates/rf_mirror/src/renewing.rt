@@ -1,1 +1,0 @@
-//! Cells renewed after an edit.
