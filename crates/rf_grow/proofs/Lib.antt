@@ -1,0 +1,4 @@
+mod Rows
+mod Names
+mod Named
+mod Made
