@@ -2,3 +2,4 @@ mod Rows
 mod Names
 mod Named
 mod Made
+pub mod Once

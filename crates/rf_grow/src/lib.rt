@@ -5,7 +5,9 @@
 
 mod assertions;
 mod declared;
+mod laws;
 mod make;
 mod objects;
 
+pub use laws::one_problem_law;
 pub use make::grown;
