@@ -1,8 +1,12 @@
 -- What `grow` answers, and that it is right.
-use Rattle.std.proofs.Common.{◌≡◌, ◌∙◌, ◌⊎◌, ℕ, List, [], None, Some, Result, Ok, Err, IfOk, IfErr, IsErrOf, refl, sym, ap, subst, inl, inr}
+use Rattle.std.proofs.Common.{◌≡◌, ◌∙◌, ◌<◌, ◌+◌, ℕ, List, [], ◌∷◌, length, get_or, take, add-one, Result, Ok, Err, IfOk, IfErr, IsErrOf, refl, sym, ap, subst, inl, inr}
 use Rattle.rf_io.specs.Folder.{FolderState}
 use Rattle.rf_problem.specs.declared.problem.Problem.{Problem}
+use Rattle.std.proofs.Math.Seq.{take-suc}
 use Rattle.rf_tree.specs.Outcomes.{IsRightOutcome}
+use Rattle.rf_tree.specs.Pending.{decisions_in}
+use Rattle.rf_tree.specs.declared.line.Line.{Line}
+use Rattle.rf_tree.proofs.LeavingLemmas.{decisions_in-append}
 use Rattle.rf_tree.specs.declared.outcome.Outcome.{Outcome}
 use Rattle.rf_tree.specs.declared.outcome.Outcome.TheVariants.{Found, Refuted, Unfinished}
 use Rattle.rf_soundness.proofs.Trees.{valid_is_sound}
@@ -24,6 +28,14 @@ use Rattle.rf_run.specs.declared.end.Reply.{Reply}
 use Rattle.rf_run.specs.declared.grow.TheConstants.{GROWTH_BUDGET}
 use Rattle.rf_run.specs.declared.refusal.Refusal.{Refusal}
 use Rattle.rf_run.specs.declared.refusal.Refusal.TheVariants.{TooLong, Problem as NoProblem, BadLine}
+
+-- one line more
+pub decisions_more :
+    (lines : List Line) (i : ℕ) (line : Line) → i < length lines → line ≡ get_or lines i line →
+    decisions_in (take (i + 1) lines) ≡ decisions_in (take i lines) + decisions_in (line ∷ [])
+decisions_more lines i line l at =
+    ap (λ k. decisions_in (take k lines)) (add-one i) ∙ ap decisions_in (take-suc lines i line l)
+    ∙ decisions_in-append (take i lines) (get_or lines i line ∷ []) ∙ ap (λ x. decisions_in (take i lines) + decisions_in (x ∷ [])) (sym at)
 
 -- the reply that this outcome makes
 pub record IsLineOf (outcome : Outcome) (reply : Reply) : Type 0 where
@@ -63,6 +75,29 @@ pub growth_right :
 growth_right n p q outcome reply one two right line =
     subst (λ x. IsRightGrowth x reply.text reply.sign) (grown_once n p q one two) (right_line p outcome reply right line)
 
+-- of what was made, where memory sufficed
+module _ {E : Type 0} (n : ℕ) (p : Problem) (outcome : Outcome) (grown : IsGrown n p) where
+  pub all_answers :
+      (result : Result Reply E) → IsOutcome p n GROWTH_BUDGET outcome → IfOk result (λ r. r.text ≡ outcome_line outcome) →
+      IfOk result (λ r. r.sign ≡ sign_of_outcome outcome) → IfOk result (λ reply. (q : Problem) × IsGrown n q × AnswersGrow q n reply)
+  all_answers (Err e) ends text sign = tt
+  all_answers (Ok reply) ends text sign = (p, grown, growth_answers n p outcome reply ends record { text = text; sign = sign })
+
+  pub all_once :
+      (result : Result Reply E) → IsOutcome p n GROWTH_BUDGET outcome → IfOk result (λ r. r.text ≡ outcome_line outcome) →
+      IfOk result (λ r. r.sign ≡ sign_of_outcome outcome) → (q : Problem) (a : Reply) → IsGrown n q → AnswersGrow q n a →
+      IfOk result (λ reply. reply ≡ a)
+  all_once (Err e) ends text sign q a other answers = tt
+  all_once (Ok reply) ends text sign q a other answers =
+      growth_once n p q outcome reply a grown other ends record { text = text; sign = sign } answers
+
+  pub all_right :
+      (result : Result Reply E) → IsRightOutcome p GROWTH_BUDGET outcome → IfOk result (λ r. r.text ≡ outcome_line outcome) →
+      IfOk result (λ r. r.sign ≡ sign_of_outcome outcome) → (q : Problem) → IsGrown n q →
+      IfOk result (λ reply. IsRightGrowth q reply.text reply.sign)
+  all_right (Err e) right text sign q other = tt
+  all_right (Ok reply) right text sign q other = growth_right n p q outcome reply grown other right record { text = text; sign = sign }
+
 -- no file is read
 pub growth_ended :
     (s : FolderState) (n : ℕ) (result : Result End Cut) → IfOk result (EndsAs (Grow n) no_input) → IfOk result (EndsOver s (Grow n))
@@ -71,7 +106,7 @@ growth_ended s n (Ok end) ends = record { input = no_input; told = record { prob
 
 pub growth_unfailed : (result : Result End Cut) → IfErr result (λ cut. cut ≡ Memory) → IsErrOf result ReadFault → ⊥
 growth_unfailed (Ok end) memory is = cc
-growth_unfailed (Err cut) memory is = (let here : cut ≡ ReadFault = is in cc)
+growth_unfailed (Err cut) memory is = cc
 
 pub growth_misses : (s : FolderState) (n : ℕ) → MissesFile s (Grow n) → ⊥
 growth_misses s n misses = elim misses [

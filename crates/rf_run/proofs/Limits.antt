@@ -1,5 +1,5 @@
 -- The numbers of a command that words say are within their limits.
-use Rattle.std.proofs.Common.{◌≡◌, ◌≤◌, ℕ, List, [], ◌∷◌, refl, sym, inl, inr, arith}
+use Rattle.std.proofs.Common.{◌≤◌, ℕ, List, [], ◌∷◌, arith}
 use Rattle.rf_bounds.specs.declared.TheConstants.{MOST_DECISIONS}
 use Rattle.rf_words.specs.Meaning.{HasNumber, IsCommand}
 use Rattle.rf_words.specs.declared.request.TheConstants.{DEFAULT_BUDGET}

@@ -1,6 +1,6 @@
 //! `grow`: what a search ends with on the problem of a number, in one line.
 
-ghost use Rattle.std.specs.Prelude.{◌≡◌, ◌≤◌, ℕ, List, length, IfOk, IfErr, MatchResult};
+ghost use Rattle.std.specs.Prelude.{◌≡◌, ◌≤◌, ◌∷◌, [], ℕ, List, length, IfOk, IfErr, MatchResult};
 ghost use Rattle.rf_grow.specs.Grown.{IsGrown};
 ghost use Rattle.rf_problem.specs.declared.problem.Problem.{Problem as TheProblem};
 ghost use Rattle.rf_tree.specs.Pending.{decisions_in};
@@ -33,15 +33,25 @@ pub struct GrowJob {
     ghost most: { n ≤ MOST_GROWTH },
 }
 
+// How many decisions a line is.
+fn decisions_of(line: &Line) -> u64
+    ensures counted { result ≡ decisions_in (line.now ∷ []) }
+    ensures few { result ≤ 1 }
+{
+    match line {
+        Line::Step(_) | Line::Close(_) => 0,
+        Line::Decide(_, _) => 1,
+    }
+}
+
 // How many of the lines are decisions.
+#[tactic(auto, using(crate::proofs::Grown::decisions_more))]
 fn count_decisions(lines: &[Line]) -> u64
     ensures { result ≡ decisions_in lines.now }
 {
     let mut count = 0;
     for line in lines {
-        if let Line::Decide(_, _) = line {
-            count += 1;
-        }
+        count += decisions_of(line);
     }
     count
 }
@@ -75,7 +85,10 @@ fn reply_to(alloc: Global, outcome: &Outcome) -> Result<Reply, AllocError>
         }
         Outcome::Refuted(lines) => (tree_line(alloc, "refuted", lines.as_slice())?, Sign::No),
         Outcome::Unfinished(lines) => {
-            (tree_line(alloc, "unfinished", lines.as_slice())?, Sign::Unfinished)
+            (
+                tree_line(alloc, "unfinished", lines.as_slice())?,
+                Sign::Unfinished,
+            )
         }
     };
     Ok(Reply { text, sign })

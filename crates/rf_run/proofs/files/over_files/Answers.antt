@@ -1,4 +1,4 @@
-use Rattle.std.proofs.Common.{◌∙◌, ap, Err, sym}
+use Rattle.std.proofs.Common.{ap, Err}
 use Rattle.rf_run.specs.Jobs.{file_command}
 use Rattle.rf_run.proofs.Opened.{IsOpened, IsRest, IsUnopened, opened_complete, opened_ended, opened_fault, opened_missing, opened_right, unopened_complete, unopened_ended, unopened_missing}
 use Rattle.rf_run.proofs.files.over_files.Goals as goal
