@@ -1,0 +1,6 @@
+-- what public contracts cite, in the order of reading
+pub mod Depth
+pub mod Ways
+pub mod Outcomes
+pub mod Measure
+pub mod Laws

@@ -1,0 +1,6 @@
+//! How many decisions a search can take one after another where a scope bounds all nodes, and so how many it can take at all.
+#![tactic(auto)]
+
+mod laws;
+
+pub use laws::{depth_law, longest_law, settled_law};
