@@ -1,15 +1,15 @@
 -- What can be settled in a state in which no rule fires.
-use Rattle.std.proofs.Common.{◌≡◌, ℕ, zero, suc, ◌+◌, ◌-◌, ◌*◌, ◌≤◌, ◌<◌, Bool, true, false, not, ◌&&◌, ◌||◌, ◌==◌, nat_le, nat_lt, Option, Some, None, length, ◌⊎◌, refl, sym, ap, ◌∙◌, subst, inl, inr, arith, true≢false}
-use Rattle.std.specs.Prelude.{is_some, unwrap_or}
+use Rattle.std.proofs.Common.{◌≡◌, ℕ, zero, suc, ◌+◌, ◌-◌, ◌*◌, ◌≤◌, ◌<◌, true, false, not, ◌||◌, nat_le, nat_lt, Option, Some, None, length, ◌⊎◌, refl, sym, ap, ◌∙◌, inl, inr, arith, true≢false}
+use Rattle.std.specs.Prelude.{is_some}
 use Rattle.std.specs.FinSet.{contains}
 use Rattle.std.specs.Option.{option_map}
-use Rattle.std.proofs.lemmas.Bool.{and_from, and_parts, both_ways, cases_lt, false_from_ne_true, leb-false, leb-true, lt-ltb, not-true, not_from_false, not_from_true, or_left, or_right, true_from_ne_false}
+use Rattle.std.proofs.lemmas.Bool.{and_from, and_parts, both_ways, cases_lt, false_from_ne_true, leb-false, leb-true, lt-ltb, not_from_false, not_from_true, or_left, or_right, true_from_ne_false}
 use Rattle.std.proofs.lemmas.List.{length-set}
 use Rattle.std.proofs.lemmas.Nat.{mul-le}
 use Rattle.std.proofs.lemmas.Option.{same_Some}
 use Rattle.rf_finite.specs.Ends.{within}
 use Rattle.rf_finite.specs.Range.{count_below, sum_below}
-use Rattle.rf_finite.proofs.Range.{None-ne_Some, all_below-from_each, below_or_last, count_below-le, count_below-le_bound, sum_below-same}
+use Rattle.rf_finite.proofs.Range.{None-ne_Some, all_below-from_each, count_below-le, count_below-le_bound, sum_below-same}
 use Rattle.rf_finite.proofs.Sums.{sum_below-without}
 use Rattle.rf_values.specs.declared.class_set.ClassSet.{ClassSet}
 use Rattle.rf_problem.specs.Classes.{is_concrete}

@@ -69,8 +69,8 @@ module _ (p : Problem) (s t : State) (g : Grows s t) where
   class_before : (o k : ℕ) → o < length s.objects → some_candidate p t o k ≡ true → some_candidate p s o k ≡ true
   class_before o k l = some_below-more_pass (length p.classes) (λ c. contains (object_of t o).candidates c && is_below p.classes c k)
       (λ c. contains (object_of s o).candidates c && is_below p.classes c k) (λ c lc e.
-        let both = and_parts (contains (object_of t o).candidates c) (is_below p.classes c k) e in
-        and_from (contains (object_of s o).candidates c) (is_below p.classes c k) (g.classes o c l both.0) both.1)
+      let both = and_parts (contains (object_of t o).candidates c) (is_below p.classes c k) e in
+      and_from (contains (object_of s o).candidates c) (is_below p.classes c k) (g.classes o c l both.0) both.1)
 
   fact-grows : (r a b : ℕ) → a < length s.objects → b < length s.objects → is_known (fact p s r a b) ≡ true → is_known (fact p t r a b) ≡ true
   fact-grows r a b la lb h =

@@ -5,3 +5,4 @@ pub mod NodeEnds
 pub mod Bounds
 pub mod Ways
 pub mod Longest
+pub mod Few

@@ -5,7 +5,7 @@ use Rattle.rf_tree.specs.Lines.{lines_of}
 use Rattle.rf_tree.specs.Trees.{HasHole, HasNoHole, IsCut, Tree, choice, closing, effect, hole}
 use Rattle.rf_tree.specs.declared.line.Line.{Line}
 use Rattle.rf_depth.specs.Laws.{LinesTellLongest, LongestIsGreatest}
-use Rattle.rf_depth.specs.Ways.{HasWay, longest, longest_from, longest_in}
+use Rattle.rf_depth.specs.Ways.{HasWay, longest, longest_from}
 
 longest-way : (t : Tree) → HasWay t (longest t)
 longest-way hole = refl

@@ -1,13 +1,15 @@
 -- The bound on all nodes is the least of those of the scopes that count them.
 use Rattle.std.proofs.Common.{◌≡◌, ℕ, zero, suc, ◌≤◌, ◌<◌, true, min, Option, Some, None, List, length, ◌⊎◌, refl, sym, ap, ◌∙◌, subst, inl, inr, arith}
+use Rattle.std.specs.Option.{option_map}
 use Rattle.std.proofs.lemmas.Bool.{cases_Bool, cases_lt}
 use Rattle.std.proofs.lemmas.Option.{same_Some}
 use Rattle.rf_finite.proofs.Range.{None-ne_Some, below_or_last}
 use Rattle.rf_values.specs.Count.{lesser_end}
 use Rattle.rf_problem.specs.Parts.{scope_at}
+use Rattle.rf_problem.specs.declared.problem.Problem.{Problem}
 use Rattle.rf_problem.specs.declared.scope.Scope.{Scope}
-use Rattle.rf_depth.specs.Depth.{IsEndOfSome, counts_all, end_of, node_end, node_end_below}
-use Rattle.rf_depth.specs.Laws.{NodeEndIsLeast, NodeEndIsNone}
+use Rattle.rf_depth.specs.Depth.{IsEndOfSome, counts_all, depth, depth_with, end_of, node_end, node_end_below}
+use Rattle.rf_depth.specs.Laws.{DepthIsNone, NodeEndIsLeast}
 
 lesser-is : (a b : Option ℕ) (n : ℕ) → lesser_end a b ≡ Some n → (a ≡ Some n) ⊎ (b ≡ Some n)
 lesser-is None b n h = inr h
@@ -57,12 +59,12 @@ node-at_most zs j k = end-at_most zs (length zs) k.0 j k.1 (rw k.2 k.3)
 pub node_end_is_least : NodeEndIsLeast
 node_end_is_least zs n h = (node_scope zs n h, λ m k. (let r = node-at_most zs m k in let e : r.0 ≡ n = same_Some r.0 n (sym r.1 ∙ h) in let l = r.2 in omega arith))
 
-none-from_each : (zs : List Scope) → ((m : ℕ) → IsEndOfSome zs m → ⊥) → (u : Option ℕ) → node_end zs ≡ u → node_end zs ≡ None
-none-from_each zs h None e = e
-none-from_each zs h (Some n) e = absurd (h n (node_scope zs n e))
+none-from_each : (p : Problem) → ((m : ℕ) → IsEndOfSome p.scopes m → ⊥) → (u : Option ℕ) → node_end p.scopes ≡ u → depth p ≡ None
+none-from_each p h None e = ap (option_map (depth_with p)) e
+none-from_each p h (Some n) e = absurd (h n (node_scope p.scopes n e))
 
-pub node_end_is_none : NodeEndIsNone
-node_end_is_none zs = (
-  λ e m k. (let r = node-at_most zs m k in None-ne_Some (sym e ∙ r.1)),
-  λ h. none-from_each zs h (node_end zs) refl,
+pub depth_is_none : DepthIsNone
+depth_is_none p = (
+  λ e m k. (let r = node-at_most p.scopes m k in None-ne_Some (sym e ∙ ap (option_map (depth_with p)) r.1)),
+  λ h. none-from_each p h (node_end p.scopes) refl,
 )

@@ -7,23 +7,23 @@ use Rattle.std.specs.FinSet.{contains, contains-difference, contains-intersectio
 use Rattle.rf_finite.specs.Ends.{within}
 use Rattle.rf_finite.specs.Range.{all_below}
 use Rattle.rf_finite.proofs.Range.{below_or_last, one-from_some_below}
-use Rattle.rf_values.specs.Count.{end_less_one, ends_at, less_one, lesser_end, meet}
+use Rattle.rf_values.specs.Count.{ends_at, less_one, lesser_end, meet}
 use Rattle.rf_values.specs.Truth.{merge}
 use Rattle.rf_values.specs.declared.class_set.ClassSet.{ClassSet}
 use Rattle.rf_values.specs.declared.count.Count.{Count}
 use Rattle.rf_values.specs.declared.truth.Truth.{Truth}
-use Rattle.rf_values.specs.declared.truth.Truth.TheVariants.{True, False, Unknown}
+use Rattle.rf_values.specs.declared.truth.Truth.TheVariants.{True, False}
 use Rattle.rf_problem.specs.Asserted.{asserted}
 use Rattle.rf_problem.specs.Classes.{is_below, is_concrete, may_have_class}
 use Rattle.rf_problem.specs.Parts.{object_at, reference_at}
 use Rattle.rf_problem.specs.declared.problem.Problem.{Problem}
 use Rattle.rf_problem.specs.declared.symbol.Symbol.TheVariants.{Reference}
-use Rattle.rf_state.specs.State.{IsRoot, State, all_candidates, by_classes, copied_from, fact, fresh_of, is_at, is_candidate, keeps_asserted, kept_to, merged_at, narrowed, no_object, object_of, some_candidate, told, told_back, with_object}
+use Rattle.rf_state.specs.State.{IsRoot, State, all_candidates, by_classes, copied_from, fact, fresh_of, is_at, keeps_asserted, kept_to, merged_at, narrowed, no_object, object_of, some_candidate, told, told_back, with_object}
 use Rattle.rf_state.specs.declared.object.Object.{Object}
 use Rattle.rf_state.proofs.EditLemmas.{fresh_is}
 use Rattle.rf_rules.specs.Decisions.{allowed, fits, is_open, side}
 use Rattle.rf_rules.specs.Effects.{after_effect}
-use Rattle.rf_rules.specs.Rules.{is_edge, is_object}
+use Rattle.rf_rules.specs.Rules.{is_object}
 use Rattle.rf_rules.specs.Words.{classes_below, hi, is_one, is_unknown, lo}
 use Rattle.rf_rules.specs.declared.decision.Decision.{Decision}
 use Rattle.rf_rules.specs.declared.decision.Decision.TheVariants.{Fresh, Kind, Ref}
@@ -156,7 +156,7 @@ module _ (p : Problem) (s : State) (kept : IsKept p s) where
     old-firmer : (q : ℕ) → q < length s.objects → IsFirmer (object_of s q) (object_of (fresh_of s o) q)
     old-firmer q k = elim (cases_eq q o) [
       | inl e ↦ subst (λ q. IsFirmer (object_of s q) (object_of (fresh_of s o) q)) (sym e)
-      (subst (λ x. IsFirmer (object_of s o) x) (sym (fresh_is p s o l).own) left-firmer)
+          (subst (λ x. IsFirmer (object_of s o) x) (sym (fresh_is p s o l).own) left-firmer)
       | inr ne ↦ subst (λ x. IsFirmer (object_of s q) x) (sym ((fresh_is p s o l).others q k ne)) (itself (object_of s q))
     ]
 

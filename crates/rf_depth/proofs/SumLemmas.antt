@@ -18,7 +18,7 @@ sum_below-less m n p q f g o le h l passes less =
     let there : o < n = omega arith in
     let b = sum_below-without n q g o there passes in
     let c = sum_below-more m n (λ j. not (eqb j o) && p j) (λ j. not (eqb j o) && q j) f g le (λ k lk e.
-      let both = and_parts (not (eqb k o)) (p k) e in let r = h k lk both.1 in (and_from (not (eqb k o)) (q k) both.0 r.0, r.1)) in
+    let both = and_parts (not (eqb k o)) (p k) e in let r = h k lk both.1 in (and_from (not (eqb k o)) (q k) both.0 r.0, r.1)) in
     omega arith
 
 pub count_below-more : (m n : ℕ) (p q : ℕ → Bool) → m ≤ n → ((k : ℕ) → k < m → p k ≡ true → q k ≡ true) → count_below m p ≤ count_below n q

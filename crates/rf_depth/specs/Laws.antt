@@ -23,9 +23,9 @@ NodeEndIsLeast =
     (scopes : List Scope) (n : ℕ) → node_end scopes ≡ Some n
     → IsEndOfSome scopes n × ((m : ℕ) → IsEndOfSome scopes m → n ≤ m)
 
--- there is no bound exactly where no such scope has an upper end
-abbrev pub NodeEndIsNone : Type 0
-NodeEndIsNone = (scopes : List Scope) → (node_end scopes ≡ None) ↔ ((m : ℕ) → IsEndOfSome scopes m → ⊥)
+-- a problem has no depth exactly where no such scope has an upper end
+abbrev pub DepthIsNone : Type 0
+DepthIsNone = (p : Problem) → (depth p ≡ None) ↔ ((m : ℕ) → IsEndOfSome p.scopes m → ⊥)
 
 -- the longest way is one of the tree, and no way is longer
 abbrev pub LongestIsGreatest : Type 0
@@ -58,9 +58,9 @@ SettledRises =
     → ((s : State) → IsRoot p s → IsKept p s)
     × ((s : State) (e : Effect) → IsKept p s → IsKept p (after_effect s e) × (settled p s ≤ settled p (after_effect s e)))
     × ((s : State) (d : Decision) (first : Bool) → IsKept p s → allowed p s d ≡ true
-        → IsKept p (side p s d first) × (settled p s < settled p (side p s d first)))
+    → IsKept p (side p s d first) × (settled p s < settled p (side p s d first)))
     × ((s : State) (d : Decision) (n : ℕ) → node_end p.scopes ≡ Some n → IsKept p s → IsSaturated p s → allowed p s d ≡ true
-        → settled p s < depth_with p n)
+    → settled p s < depth_with p n)
 
 -- so what is left of the depth rises by no effect, and falls on each side of a decision that is taken where no rule fires
 abbrev pub LeftFalls : Type 0

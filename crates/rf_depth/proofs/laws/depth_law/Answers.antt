@@ -1,4 +1,4 @@
-use Rattle.rf_depth.proofs.NodeEnds.{node_end_is_least, node_end_is_none}
+use Rattle.rf_depth.proofs.NodeEnds.{depth_is_none, node_end_is_least}
 use Rattle.rf_depth.proofs.Ways.{lines_are_within, longest_is_within}
 use Rattle.rf_depth.proofs.laws.depth_law.Goals as goal
 
@@ -6,7 +6,7 @@ pub returns-clause-bound : goal.returns-clause-bound
 returns-clause-bound c = node_end_is_least
 
 pub returns-clause-unbounded : goal.returns-clause-unbounded
-returns-clause-unbounded c = node_end_is_none
+returns-clause-unbounded c = depth_is_none
 
 pub returns-clause-tree : goal.returns-clause-tree
 returns-clause-tree c = longest_is_within
