@@ -12,3 +12,4 @@ pub mod Verified
 pub mod TreeFacts
 pub mod Generated
 pub mod Budgets
+pub mod Enough

@@ -12,5 +12,5 @@ returns-in-Ok-reply_to-clause-decides c =
 
 pub returns-in-Ok-reply_to-clause-right : goal.returns-in-Ok-reply_to-clause-right
 returns-in-Ok-reply_to-clause-right c =
-    generation_right c.args.problem.now c.args.self.now.budget c.in-Ok.outcome _ c.in-Ok.ensures.right c.in-Ok-reply_to.ensures.document
-    c.in-Ok-reply_to.ensures.sign
+    generation_right c.args.problem.now c.args.self.now.budget c.in-Ok.outcome _ c.in-Ok.ensures.right c.in-Ok.ensures.shallow
+    c.in-Ok.ensures.enough c.in-Ok-reply_to.ensures.document c.in-Ok-reply_to.ensures.sign
