@@ -3,6 +3,7 @@
 ghost use Rattle.std.specs.Prelude.{◌≡◌, ◌<◌, ◌≤◌, ◌*◌, ◌^◌, true, IfOk, OnOk, length, slice_index_or};
 ghost use Rattle.rf_finite.specs.Passing.{joined};
 ghost use Rattle.rf_rules.specs.Decisions.{allowed};
+ghost use Rattle.rf_problem.specs.declared.problem.Problem.{Problem};
 ghost use Rattle.rf_state.specs.State.{State};
 ghost use Rattle.rf_pending.specs.Changes.{FitsChange, IsChange};
 ghost use Rattle.rf_decide.specs.Choice.{allowed_edges, choices_in, chosen, group, no_decision};
@@ -40,6 +41,16 @@ impl Counted {
         Ok(Counted {
             kinds: Sizes::none(alloc, objects)?,
             edges: Sizes::none(alloc, references * objects)?,
+        })
+    }
+
+    /// A copy of the counts, which is right where they are.
+    pub fn copied(&self, alloc: Global) -> Result<Counted, AllocError>
+        ensures { IfOk result (λ copy. (p : Problem) (s : State) → IsCounted p s self.now → IsCounted p s copy) }
+    {
+        Ok(Counted {
+            kinds: self.kinds.copied(alloc)?,
+            edges: self.edges.copied(alloc)?,
         })
     }
 

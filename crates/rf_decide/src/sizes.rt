@@ -30,6 +30,17 @@ impl Sizes {
         })
     }
 
+    /// A copy of the sizes.
+    pub fn copied(&self, alloc: Global) -> Result<Sizes, AllocError>
+        ensures { IfOk result (λ copy. (many most : ℕ) (list : ℕ → List Decision) → AreSizes many most list self.now
+            → AreSizes many most list copy) }
+    {
+        Ok(Sizes {
+            numbers: self.numbers.as_slice().to_vec(alloc)?,
+            uncounted: self.uncounted.copied(alloc)?,
+        })
+    }
+
     /// The size of a list, where it is known.
     pub fn known(&self, k: u64) -> Option<u64>
         requires number { k < length self.now.numbers.items }

@@ -46,6 +46,17 @@ impl Marks {
         })
     }
 
+    /// A copy of the marks.
+    pub fn copied(&self, alloc: Global) -> Result<Marks, AllocError>
+        ensures start { IfOk result (λ copy. copy.start ≡ self.now.start) }
+        ensures rows { IfOk result (λ copy. copy.rows.items ≡ self.now.rows.items) }
+    {
+        Ok(Marks {
+            start: self.start,
+            rows: self.rows.as_slice().to_vec(alloc)?,
+        })
+    }
+
     /// Marks a row, if there is one of this number.
     pub fn touch(&mut self, row: u128)
         ensures { AreTouched (λ k. row == k) self.old self.new }

@@ -7,6 +7,7 @@ use Rattle.rf_tree.specs.Pending.{decisions_in}
 use Rattle.rf_tree.specs.declared.line.Line.{Line}
 use Rattle.rf_tree.specs.declared.line.Line.TheVariants.{Close, Decide}
 use Rattle.rf_decide.specs.Choice.{chosen}
+use Rattle.rf_decide.specs.Counted.{IsCounted}
 use Rattle.rf_decide.specs.Words.{word}
 use Rattle.rf_search.specs.Course.{IsNext, Leads, Place, root_place}
 use Rattle.rf_search.specs.Least.{IsLeast}
@@ -109,9 +110,9 @@ module _ (p : Problem) (seed budget : ℕ) (root : State) where
   -- after a decision
   pub decided : (made : ℕ) (lines : List Line) (t : State) (kept : List State) (us : List Untried) (u : Untried)
       → IsSearching p seed budget root made lines t kept us → IsLeast p t None → chosen p t (word seed made) ≡ Some (u.decision, u.first)
-      → made < budget → u.version ≡ length kept
+      → made < budget → u.version ≡ length kept → IsCounted p t u.counted
       → IsSearching p seed budget root (made + 1) (lines ++ Decide u.decision u.first ∷ []) (side p t u.decision u.first) (kept ++ t ∷ []) (us ++ u ∷ [])
-  decided made lines t kept us u h least choice few version =
+  decided made lines t kept us u h least choice few version counted =
       let more : List State = kept ++ t ∷ [] in
       let same = same-more kept t in
       let ok : allowed p t u.decision ≡ true = chosen_allowed p t (word seed made) u.decision u.first choice in
@@ -121,6 +122,7 @@ module _ (p : Problem) (seed budget : ℕ) (root : State) where
       let back : CanGoBack p more u = record {
         least = subst (λ (x : State). IsLeast p x None) (sym last) least;
         ok = subst (λ (x : State). allowed p x u.decision ≡ true) (sym last) ok;
+        counted = subst (λ (x : State). IsCounted p x u.counted) (sym last) counted;
       } in
       let other : untried_place p more u ≡ here (side p t u.decision (not u.first)) more =
       λ i. record { state = side p (last i) u.decision (not u.first); way = way i } in

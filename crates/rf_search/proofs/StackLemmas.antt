@@ -3,6 +3,7 @@ use Rattle.std.proofs.Common.{◌≡◌, ℕ, zero, suc, ◌+◌, ◌≤◌, ◌
 use Rattle.rf_problem.specs.declared.problem.Problem.{Problem}
 use Rattle.rf_state.specs.State.{State}
 use Rattle.rf_rules.specs.Decisions.{allowed, side}
+use Rattle.rf_decide.specs.Counted.{IsCounted}
 use Rattle.rf_search.specs.Course.{Place}
 use Rattle.rf_search.specs.Least.{IsLeast}
 use Rattle.rf_search.specs.Stack.{AreUntried, CanGoBack, IsRooted, kept_at, untried_place, untried_places}
@@ -47,7 +48,8 @@ AreUntried-same p kept other low (u ∷ us) end last same l h =
     let e : kept_at kept u.version ≡ kept_at other u.version = (same u.version (omega arith)).0 in
     let least : IsLeast p (kept_at other u.version) None = subst (λ (s : State). IsLeast p s None) e h.1.least in
     let ok : allowed p (kept_at other u.version) u.decision ≡ true = subst (λ (s : State). allowed p s u.decision ≡ true) e h.1.ok in
-    (h.0, record { least = least; ok = ok }, AreUntried-same p kept other (u.version + 1) us end last same l h.2)
+    let counted : IsCounted p (kept_at other u.version) u.counted = subst (λ (s : State). IsCounted p s u.counted) e h.1.counted in
+    (h.0, record { least = least; ok = ok; counted = counted }, AreUntried-same p kept other (u.version + 1) us end last same l h.2)
 
 pub untried_places-same : (p : Problem) (kept other : List State) (low : ℕ) (us : List Untried) (end : ℕ) (places : List Place) → AreSameBelow end kept other
     → AreUntried p kept low us end → untried_places p kept us places ≡ untried_places p other us places

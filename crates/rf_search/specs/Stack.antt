@@ -5,6 +5,7 @@ use Rattle.rf_values.specs.declared.truth.Truth.TheVariants.{Unknown}
 use Rattle.rf_problem.specs.declared.problem.Problem.{Problem}
 use Rattle.rf_state.specs.State.{State}
 use Rattle.rf_rules.specs.Decisions.{allowed, side}
+use Rattle.rf_decide.specs.Counted.{IsCounted}
 use Rattle.rf_tree.specs.Pending.{decisions_in}
 use Rattle.rf_tree.specs.declared.line.Line.{Line}
 use Rattle.rf_search.specs.Course.{Leads, Place, root_place}
@@ -27,10 +28,11 @@ abbrev pub untried_places : Problem → List State → List Untried → List Pla
 untried_places p kept [] places = places
 untried_places p kept (u ∷ us) places = untried_places p kept us (untried_place p kept u ∷ places)
 
--- the decision can be gone back to: where it was taken no rule fires, and it is allowed there
+-- the decision can be gone back to: where it was taken no rule fires, it is allowed there, and what was counted there is right
 pub record CanGoBack (p : Problem) (kept : List State) (u : Untried) : Type 0 where
   pub least : IsLeast p (kept_at kept u.version) None
   pub ok : allowed p (kept_at kept u.version) u.decision ≡ true
+  pub counted : IsCounted p (kept_at kept u.version) u.counted
 
 -- the versions rise, from `low` on and below `end`, and each decision can be gone back to
 abbrev pub AreUntried : Problem → List State → ℕ → List Untried → ℕ → Type 0

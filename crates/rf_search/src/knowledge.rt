@@ -3,6 +3,7 @@
 ghost use Rattle.std.specs.Prelude.{◌≡◌, ◌≤◌, None, IfOk, OnOk, length};
 ghost use Rattle.rf_state.specs.State.{State};
 ghost use Rattle.rf_decide.specs.Choice.{chosen};
+ghost use Rattle.rf_decide.specs.Counted.{IsCounted};
 ghost use Rattle.rf_decide.specs.declared.limit.TheConstants.{MOST_OBJECTS};
 ghost use Rattle.rf_pending.specs.Changes.{FitsChange, IsChange};
 ghost use Rattle.rf_search.specs.Knowledge.{IsKnown};
@@ -33,14 +34,19 @@ impl Knowledge {
         })
     }
 
-    /// Of a state in which no rule fires.
-    pub fn quiet<V: View>(alloc: Global, view: &V) -> Result<Knowledge, AllocError>
-        requires { IsLeast (V.problem view.now) (V.state view.now) None }
+    /// Of a state in which no rule fires, and of which so much is counted.
+    pub fn quiet<V: View>(
+        alloc: Global,
+        view: &V,
+        counted: Counted,
+    ) -> Result<Knowledge, AllocError>
+        requires least { IsLeast (V.problem view.now) (V.state view.now) None }
+        requires counted { IsCounted (V.problem view.now) (V.state view.now) counted }
         ensures { IfOk result (IsKnown (V.problem view.now) (V.state view.now)) }
     {
         Ok(Knowledge {
             pending: Pending::none(alloc, view)?,
-            counted: Counted::none(alloc, view)?,
+            counted,
         })
     }
 

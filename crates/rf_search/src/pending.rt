@@ -77,7 +77,7 @@ pub fn least<V: View>(
 }
 
 /// Makes pending what may fire after a change: where what was pending covered the state before, it covers the state
-/// now. The rules of predicates are all touched by each change.
+/// now.
 pub fn touch<V: View>(
     alloc: Global,
     view: &V,
@@ -92,6 +92,5 @@ pub fn touch<V: View>(
     rf_prop_mult::touch(alloc, view, &mut pending.degrees, change)?;
     rf_prop_contain::touch(alloc, view, &mut pending.containment, change)?;
     rf_prop_scope::touch(&mut pending.scopes, change);
-    pending.predicates = rf_prop_broken::Pending::all(alloc, view)?;
-    Ok(())
+    rf_prop_broken::touch(alloc, view, &mut pending.predicates, change)
 }

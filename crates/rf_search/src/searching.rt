@@ -42,7 +42,7 @@ fn rounds<T: Versions>(
             let Some(latest) = untried.pop() else {
                 return Ok(Outcome::Refuted(Items::from_vec(lines)));
             };
-            knowledge = go_back(alloc, t, &latest)?;
+            knowledge = go_back(alloc, t, latest)?;
         } else {
             let Some((decision, first)) = knowledge.choose(t, words.next()) else {
                 let graph = graph_of(alloc, t)?;
@@ -51,12 +51,8 @@ fn rounds<T: Versions>(
             if made == budget {
                 return Ok(Outcome::Unfinished(Items::from_vec(lines)));
             }
-            let version = go_on(alloc, t, &mut knowledge, &decision, first)?;
-            untried.push(Untried {
-                version,
-                decision,
-                first,
-            })?;
+            let latest = go_on(alloc, t, &mut knowledge, &decision, first)?;
+            untried.push(latest)?;
             lines.push(Line::Decide(decision, first))?;
             made += 1;
         }

@@ -1,6 +1,7 @@
 use Rattle.std.proofs.Common.{◌≡◌, ◌<◌, ◌++◌, ◌∷◌, [], List, Some, None, true, false, length, refl, sym, ◌∙◌, arith}
 use Rattle.rf_decide.proofs.Chosen.{chosen_allowed}
 use Rattle.rf_decide.specs.Choice.{chosen}
+use Rattle.rf_decide.specs.Counted.{IsCounted}
 use Rattle.rf_decide.specs.Words.{word}
 use Rattle.rf_search.specs.Least.{IsLeast}
 use Rattle.rf_search.specs.Settled.{Settles}
@@ -193,8 +194,8 @@ go_on-requires-clause-allowed g c =
     rw (← same, ← c.next.ensures.word seed made c.loop-untried.invariant.taken) (sym c.in-Some-choose.ensures.chosen) in
     rw same (chosen_allowed p t (word seed made) c.in-Some-choose.decision c.in-Some-choose.first choice)
 
-pub returns-in_err-version-clause-rooted : goal.returns-in_err-version-clause-rooted
-returns-in_err-version-clause-rooted g c =
+pub returns-in_err-latest-clause-rooted : goal.returns-in_err-latest-clause-rooted
+returns-in_err-latest-clause-rooted g c =
     let p = g.T.Facts.problem c.args.t.now in
     let root = g.T.Facts.state c.args.t.now in
     let seed = c.args.seed in
@@ -225,24 +226,28 @@ loop-untried-preserved g c =
     let us = c.loop-untried.untried.items in
     let at : IsSearching p seed budget root made lines t kept us = settled p seed budget root made before lines s t kept us c.loop-untried.invariant.searching done in
     let least : IsLeast p t None = done.settled.1 in
-    let choice : chosen p t (word seed made) ≡ Some (c.in-Some-choose.decision, c.in-Some-choose.first) =
-    rw (← same, ← c.next.ensures.word seed made c.loop-untried.invariant.taken) (sym c.in-Some-choose.ensures.chosen) in
-    let u : Untried = record { version = c.in_ok-version.version; decision = c.in-Some-choose.decision; first = c.in-Some-choose.first } in
-    let version : u.version ≡ length kept = rw (← c.in_ok-settle_known.ensures.kept) c.in_ok-version.ensures.version in
+    let u : Untried = c.in_ok-latest.latest in
+    let choice : chosen p t (word seed made) ≡ Some (u.decision, u.first) =
+    rw (← same, ← c.next.ensures.word seed made c.loop-untried.invariant.taken, c.in_ok-latest.ensures.decision, c.in_ok-latest.ensures.first)
+    (sym c.in-Some-choose.ensures.chosen) in
+    let counted : IsCounted p t u.counted = rw (← same) c.in_ok-latest.ensures.counted in
+    let version : u.version ≡ length kept = rw (← c.in_ok-settle_known.ensures.kept) c.in_ok-latest.ensures.version in
     let few : made < budget = (let f = at.few in omega (arith, c.if-made-budget.false)) in
     record {
       problem = c.go_on.ensures.problem ∙ same;
-      known = rw c.go_on.ensures.problem c.in_ok-version.ensures.known;
+      known = rw c.go_on.ensures.problem c.in_ok-latest.ensures.known;
       rooted = c.go_on.ensures.rooted root (rw c.in_ok-settle_known.ensures.kept c.loop-untried.invariant.rooted);
       taken = c.next.ensures.taken seed made c.loop-untried.invariant.taken;
       searching =
           rw (
             c.in_ok-push-2.ensures.items,
             c.in_ok-push.ensures.items,
-            c.in_ok-version.ensures.side,
-            c.in_ok-version.ensures.kept,
+            c.in_ok-latest.ensures.side,
+            c.in_ok-latest.ensures.kept,
             same,
             c.in_ok-settle_known.ensures.kept,
+            ← c.in_ok-latest.ensures.decision,
+            ← c.in_ok-latest.ensures.first,
           )
-          (decided p seed budget root made lines t kept us u at least choice few version);
+          (decided p seed budget root made lines t kept us u at least choice few version counted);
     }
