@@ -1,5 +1,5 @@
 -- The decisions of a course are taken where no rule fires, so its outcomes keep to the depth.
-use Rattle.std.proofs.Common.{◌≡◌, ℕ, ◌+◌, ◌^◌, ◌≤◌, ◌<◌, Some, List, [], ◌∷◌, ◌++◌, arith}
+use Rattle.std.proofs.Common.{◌≡◌, ℕ, ◌+◌, ◌^◌, ◌≤◌, ◌<◌, Some, List, [], ◌∷◌, ◌++◌, subst, arith}
 use Rattle.rf_problem.specs.declared.problem.Problem.{Problem}
 use Rattle.rf_state.specs.State.{IsRoot, State}
 use Rattle.rf_tree.specs.Pending.{decisions_in}
@@ -60,3 +60,14 @@ outcome_is_shallow p seed budget outcome h = shallow-from_ends p seed budget h.r
 
 pub enough_is_finished : EnoughIsFinished
 enough_is_finished p seed budget outcome h = finished-from_ends p seed budget h.root outcome h.state h.way h.is_root h.ends
+
+-- the same where the problem of the state that was lent is the problem
+pub shallow-of_lent : (p lent : Problem) (seed budget : ℕ) (root : State) (outcome : Outcome) (s : State) (way : List State) → lent ≡ p → IsRoot p root
+    → Ends lent seed budget root outcome s way → IsShallow p outcome
+shallow-of_lent p lent seed budget root outcome s way is at h =
+    shallow-from_ends p seed budget root outcome s way at (subst (λ q. Ends q seed budget root outcome s way) is h)
+
+pub finished-of_lent : (p lent : Problem) (seed budget : ℕ) (root : State) (outcome : Outcome) (s : State) (way : List State) → lent ≡ p → IsRoot p root
+    → IsEnough p budget → Ends lent seed budget root outcome s way → IsFinished outcome
+finished-of_lent p lent seed budget root outcome s way is at enough h =
+    finished-from_ends p seed budget root outcome s way at (subst (λ q. Ends q seed budget root outcome s way) is h) enough

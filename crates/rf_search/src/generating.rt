@@ -6,7 +6,6 @@ ghost use Rattle.rf_tree.specs.Outcomes.{IsRightOutcome};
 ghost use Rattle.rf_depth.specs.Outcomes.{IsEnough, IsFinished, IsShallow};
 ghost use Rattle.rf_search.specs.Outcome.{IsOutcome};
 
-use crate::laws::bound_law;
 use crate::search;
 use rf_problem::Problem;
 use rf_tree::{Outcome, Solver};
@@ -29,7 +28,6 @@ pub fn generate(
     ensures shallow { IfOk result (IsShallow problem.now) }
     ensures enough { IsEnough problem.now budget → IfOk result IsFinished }
 {
-    bound_law();
     let mut state = Versioned::root(alloc, problem)?;
     search(alloc, &mut state, seed, budget)
 }
