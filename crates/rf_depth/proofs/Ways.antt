@@ -13,9 +13,10 @@ use Rattle.rf_tree.specs.Trees.{FitsTree, Tree, choice, closing, decisions_of, e
 use Rattle.rf_tree.specs.declared.line.Line.{Line}
 use Rattle.rf_tree.specs.declared.line.Line.TheVariants.{Close, Decide, Step}
 use Rattle.rf_depth.specs.Depth.{depth_with, node_end}
+use Rattle.rf_depth.specs.Late.{DecidesLate, LinesDecideLate}
 use Rattle.rf_depth.specs.Laws.{LeftFalls, LinesAreWithin, LongestIsWithin}
 use Rattle.rf_depth.specs.Measure.{IsKept, settled}
-use Rattle.rf_depth.specs.Ways.{DecidesLate, LinesDecideLate, longest, longest_from, longest_in}
+use Rattle.rf_depth.specs.Ways.{longest, longest_from, longest_in}
 use Rattle.rf_depth.proofs.Bounds.{below_saturated, depth-is}
 use Rattle.rf_depth.proofs.Steps.{effect_kept, effect_keeps, root_kept, side_kept, side_more}
 

@@ -14,8 +14,9 @@ use Rattle.rf_tree.specs.Saturated.{IsSaturated}
 use Rattle.rf_tree.specs.Trees.{FitsTree, HasHole, HasNoHole, IsCut, Tree, decisions_of}
 use Rattle.rf_tree.specs.declared.line.Line.{Line}
 use Rattle.rf_depth.specs.Depth.{IsEndOfSome, depth, depth_with, node_end}
+use Rattle.rf_depth.specs.Late.{DecidesLate, LinesDecideLate}
 use Rattle.rf_depth.specs.Measure.{IsKept, is_tight, left_of, lows, settled}
-use Rattle.rf_depth.specs.Ways.{DecidesLate, HasWay, LinesDecideLate, longest, longest_in}
+use Rattle.rf_depth.specs.Ways.{HasWay, longest, longest_in}
 
 -- the bound on all nodes is the upper end of a scope that counts them, and no such scope has a lesser one
 abbrev pub NodeEndIsLeast : Type 0

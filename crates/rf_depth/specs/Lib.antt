@@ -2,5 +2,6 @@
 pub mod Depth
 pub mod Ways
 pub mod Outcomes
+pub mod Late
 pub mod Measure
 pub mod Laws

@@ -4,10 +4,10 @@ ghost use Rattle.rf_io.specs.Folder.{NoneFell, SameFiles};
 ghost use Rattle.rf_problem.specs.declared.problem.Problem.{Problem};
 ghost use Rattle.rf_words.specs.Meaning.{IsCommand};
 ghost use Rattle.rf_words.specs.declared.request.Command.{Command};
-ghost use Rattle.rf_run.specs.Answers.{HasEnough};
 ghost use Rattle.rf_run.specs.Commands.{IsBuilt};
 ghost use Rattle.rf_run.specs.Ends.{AFileFailed, Ends, HasEnd, Input, IsStoredInput, IsSubject, MissesFile, WasRead};
 ghost use Rattle.rf_run.specs.Leaves.{CameTo, Complained, IsRightEnd, NoWriteFailed, Wrote};
+ghost use Rattle.rf_run.specs.Answers.{HasEnough};
 ghost use Rattle.rf_run.specs.declared.end.End.{End};
 
 use crate::Status;

@@ -8,8 +8,9 @@ use Rattle.rf_tree.specs.declared.line.Line.TheVariants.{Close, Decide, Step}
 use Rattle.rf_tree.specs.declared.outcome.Outcome.{Outcome}
 use Rattle.rf_tree.specs.declared.outcome.Outcome.TheVariants.{Found, Refuted, Unfinished}
 use Rattle.rf_depth.specs.Depth.{depth}
+use Rattle.rf_depth.specs.Late.{LinesDecideLate}
 use Rattle.rf_depth.specs.Outcomes.{IsEnough, IsFinished, IsShallow}
-use Rattle.rf_depth.specs.Ways.{LinesDecideLate, longest_in}
+use Rattle.rf_depth.specs.Ways.{longest_in}
 use Rattle.rf_depth.proofs.Ways.{lines_are_within}
 use Rattle.rf_search.specs.Course.{Leads, Place, places_after, root_place}
 use Rattle.rf_search.specs.Laws.{EnoughIsFinished, OutcomeIsShallow}
