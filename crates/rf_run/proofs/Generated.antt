@@ -1,19 +1,13 @@
 -- What `generate` answers, and that it is right.
-use Rattle.std.proofs.Common.{◌≡◌, ◌∙◌, ◌⊎◌, ℕ, List, [], ◌∷◌, ◌++◌, All, Ok, Err, MatchResult, false, refl, sym, ap, subst, inl, inr}
+use Rattle.std.proofs.Common.{◌≡◌, ◌∙◌, ℕ, List, [], ◌++◌, All, Ok, false, refl, sym, subst}
 use Rattle.std.proofs.lemmas.List.Elements.{All-append, All-cons, All-nil}
 use Rattle.rf_failure.specs.Answers.{Answers as Decides}
-use Rattle.rf_failure.specs.declared.Failure.{Failure}
-use Rattle.rf_failure.specs.declared.Failure.TheVariants.{Fault, Memory}
 use Rattle.rf_problem.specs.declared.problem.Problem.{Problem}
 use Rattle.rf_state.specs.State.{State}
-use Rattle.rf_graph.specs.Violations.{Sat}
-use Rattle.rf_graph.specs.declared.graph.Graph.{Graph}
 use Rattle.rf_tree.specs.Document.{FitsKind}
-use Rattle.rf_tree.specs.Lines.{Open, Valid, lines_of}
+use Rattle.rf_tree.specs.Lines.{lines_of}
 use Rattle.rf_tree.specs.Outcomes.{IsRightOutcome}
-use Rattle.rf_tree.specs.Pending.{decisions_in}
 use Rattle.rf_tree.specs.Trees.{FitsTree, Tree, choice, closing, effect, hole}
-use Rattle.rf_tree.specs.declared.line.Line.{Line}
 use Rattle.rf_tree.specs.declared.line.Line.TheVariants.{Close, Decide, Step}
 use Rattle.rf_tree.specs.declared.outcome.Outcome.{Outcome}
 use Rattle.rf_tree.specs.declared.outcome.Outcome.TheVariants.{Found, Refuted, Unfinished}

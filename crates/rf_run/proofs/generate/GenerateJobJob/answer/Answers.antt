@@ -1,4 +1,3 @@
-use Rattle.std.proofs.Common.{sym}
 use Rattle.rf_run.proofs.Generated.{generation_decides, generation_right, outcome_fits}
 use Rattle.rf_run.proofs.generate.GenerateJobJob.answer.Goals as goal
 
