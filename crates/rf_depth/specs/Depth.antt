@@ -32,8 +32,8 @@ IsEndOfSome scopes n =
 abbrev pub concrete_classes : Problem → ℕ
 concrete_classes p = count_below (length p.classes) (is_concrete p.classes)
 
--- with at most n nodes: n objects can be made, each object of the problem ended, n nodes lose each class that nodes may have, and each
--- edge of each reference between n nodes be settled
+-- with at most n nodes: n objects can be made, each object of the problem ended, n nodes lose each class that nodes
+-- may have, and each edge of each reference between n nodes be settled
 abbrev pub depth_with : Problem → ℕ → ℕ
 depth_with p n = n + (length p.objects + (n * concrete_classes p + length p.references * (n * n)))
 

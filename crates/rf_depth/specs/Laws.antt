@@ -52,7 +52,8 @@ TightStays =
     × ((d : Decision) (first : Bool) → allowed p s d ≡ true → is_tight s o ≡ true → is_tight (side p s d first) o ≡ true)
     × (IsSaturated p s → (is_tight s o ≡ true) ↔ (is_one s o ≡ true))
 
--- what is settled stays so after an effect, there is more of it on each side of a decision, and less than the depth where one is taken
+-- what is settled stays so after an effect, there is more of it on each side of a decision, and less than the depth
+-- where one is taken
 abbrev pub SettledRises : Type 0
 SettledRises =
     (p : Problem)
@@ -63,7 +64,8 @@ SettledRises =
     × ((s : State) (d : Decision) (n : ℕ) → node_end p.scopes ≡ Some n → IsKept p s → IsSaturated p s → allowed p s d ≡ true
     → settled p s < depth_with p n)
 
--- so what is left of the depth rises by no effect, and falls on each side of a decision that is taken where no rule fires
+-- so what is left of the depth rises by no effect, and falls on each side of a decision that is taken where no rule
+-- fires
 abbrev pub LeftFalls : Type 0
 LeftFalls =
     (p : Problem) (d : ℕ) → depth p ≡ Some d → (s : State) → IsKept p s

@@ -1,4 +1,5 @@
--- How much of a state is settled for good: no effect and no decision takes any of it away, and each decision adds to it.
+-- How much of a state is settled for good: no effect and no decision takes any of it away, and each decision adds
+-- to it.
 use Rattle.std.specs.Prelude.{◌≡◌, ℕ, ◌+◌, ◌-◌, ◌≤◌, ◌<◌, Bool, true, not, ◌&&◌, nat_le, length}
 use Rattle.std.specs.FinSet.{contains}
 use Rattle.rf_finite.specs.Ends.{within}
@@ -32,8 +33,8 @@ is_settled_to p s r a b = is_tight s b && is_known (fact p s r a b)
 abbrev pub tights : State → ℕ
 tights s = count_below (length s.objects) (is_tight s)
 
--- how many objects decisions made; how many of the problem's are ended; the classes that tight objects lost; the edges, of one reference and
--- of all, that are known between tight objects
+-- how many objects decisions made; how many of the problem's are ended; the classes that tight objects lost; the
+-- edges, of one reference and of all, that are known between tight objects
 abbrev pub made : Problem → State → ℕ
 made p s = length s.objects - length p.objects
 
@@ -61,8 +62,8 @@ left_of d p s = d - settled p s
 abbrev pub lows : State → ℕ
 lows s = sum_below (length s.objects) (λ o. true) (lo s)
 
--- what the states of a tree keep: the objects of the problem are there, one that a decision made is tight, and candidates are classes that
--- nodes may have
+-- what the states of a tree keep: the objects of the problem are there, one that a decision made is tight, and
+-- candidates are classes that nodes may have
 pub record IsKept (p : Problem) (s : State) : Type 0 where
   pub inputs : length p.objects ≤ length s.objects
   pub copies : (o : ℕ) → length p.objects ≤ o → o < length s.objects → is_tight s o ≡ true

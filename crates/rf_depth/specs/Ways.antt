@@ -19,7 +19,8 @@ HasWay (effect rule t) n = (n ≡ 0) ⊎ HasWay t n
 HasWay (choice d first t u) zero = Unit {0}
 HasWay (choice d first t u) (suc n) = HasWay t n ⊎ HasWay u n
 
--- the same by lines, where so many decisions led to each place that is left: the greatest number that led to a place of the lines
+-- the same by lines, where so many decisions led to each place that is left: the greatest number that led to a
+-- place of the lines
 abbrev pub longest_from : List ℕ → List Line → ℕ
 longest_from [] lines = 0
 longest_from (k ∷ ks) [] = k
