@@ -13,3 +13,4 @@ pub mod TreeFacts
 pub mod Generated
 pub mod Limits
 pub mod Grown
+pub mod Enough

@@ -3,6 +3,7 @@ use Rattle.std.specs.Prelude.{◌≡◌, ◌≤◌, ◌⊎◌, ℕ, List, length
 use Rattle.rf_problem.specs.declared.problem.Problem.{Problem}
 use Rattle.rf_check.specs.Documents.{IsRefutation, IsTreeVerdict, MeetsRejected}
 use Rattle.rf_check.specs.declared.verdict.TreeVerdict.{TreeVerdict}
+use Rattle.rf_depth.specs.Outcomes.{AreShallow, IsEnough}
 use Rattle.rf_graph.specs.Document.{IsDocument}
 use Rattle.rf_graph.specs.Violations.{IsVerdict, Sat}
 use Rattle.rf_graph.specs.declared.graph.Graph.{Graph}
@@ -100,19 +101,25 @@ pub record IsRightGraph (p : Problem) (text : List ℕ) : Type 0 where
   pub document : IsDocument p graph text
   pub satisfies : Sat p graph
 
--- the text is the document of valid lines, a tree that `verify` accepts; and no graph satisfies the problem
+-- the text is the document of valid lines, a tree that `verify` accepts; where a scope bounds all nodes, none of its ways holds more
+-- decisions than the depth of the problem; and no graph satisfies the problem
 pub record IsRightRefutedText (p : Problem) (text : List ℕ) : Type 0 where
   pub lines : List Line
   pub document : IsTreeDocument lines text
   pub valid : Valid p lines
   pub accepted : IsRefutation p text (decisions_in lines)
+  pub shallow : AreShallow p lines
   pub no_graph : (g : Graph) → Sat p g → ⊥
 
--- the text is the document of open lines with exactly as many decisions as the budget, each of which is allowed where it stands
+-- the text is the document of open lines with exactly as many decisions as the budget, each of which is allowed where it stands; where a
+-- scope bounds all nodes, none of its ways holds more decisions than the depth of the problem, and the budget is less than two to the power
+-- of it
 pub record IsRightUnfinishedText (p : Problem) (budget : ℕ) (text : List ℕ) : Type 0 where
   pub lines : List Line
   pub document : IsTreeDocument lines text
   pub unfinished : Open p lines budget
+  pub shallow : AreShallow p lines
+  pub too_few : IsEnough p budget → ⊥
 
 -- what `generate` promises: a yes is a graph that satisfies, a no a tree that refutes, an unfinished one the tree of a spent budget
 abbrev pub IsRightGeneration : Problem → ℕ → List ℕ → Sign → Type 0
@@ -153,3 +160,8 @@ IsRight (Evaluate file) p second reply = (s : State) → IsRoot p s → IsValuat
 IsRight (Verify file tree) p second reply = IsRightRefutation p second reply
 IsRight (Grow n) p second reply = IsRightGrowth p reply.text reply.sign
 IsRight _ p second reply = ⊥
+
+-- the command is a search, with enough of a budget to end with a graph or a refutation of this problem
+abbrev pub HasEnough : Command → Problem → Type 0
+HasEnough (Generate file seed budget json) p = IsEnough p budget
+HasEnough _ p = ⊥
