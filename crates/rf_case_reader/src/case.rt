@@ -79,14 +79,23 @@ impl fmt::Display for Outcome {
     }
 }
 
-/// A case: it is run in each of its settings.
+/// Reads of a run: those of a whole file, to its end, or so many.
+#[derive(Debug, Drop)]
+pub(crate) enum Reads {
+    File(Text),
+    Count(u64),
+}
+
+/// A case: it is run in each of its settings, and where it says which reads it makes, with each call
+/// failing in turn.
 #[derive(Debug, Drop)]
 pub struct Case {
     pub title: String,
     pub words: Vec<Text>,
     pub files: Vec<(Text, Vec<u8>)>,
-    pub settings: Vec<Setting>,
-    pub wanted: Outcome,
+    pub(crate) settings: Vec<Setting>,
+    pub(crate) reads: Option<Vec<Reads>>,
+    pub(crate) wanted: Outcome,
 }
 
 impl Case {
@@ -107,6 +116,7 @@ impl Case {
             words,
             files,
             settings,
+            reads: None,
             wanted: Outcome {
                 status: None,
                 out: Vec::new(alloc),

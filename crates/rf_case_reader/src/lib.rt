@@ -7,7 +7,9 @@ mod case;
 mod numbers;
 mod outside;
 mod reader;
+mod trials;
 
 pub use case::{Case, Outcome, Setting};
 pub use outside::{error_output_of, folder_of, output_of};
 pub use reader::read_cases;
+pub use trials::Trial;

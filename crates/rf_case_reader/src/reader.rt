@@ -1,7 +1,7 @@
 //! The reader of case files.
 
 use crate::bytes::{push_line, push_repeated, push_text};
-use crate::case::{Case, Part};
+use crate::case::{Case, Part, Reads};
 use crate::numbers::{push_range, read_number};
 use anyhow::{Context, Result, bail, ensure};
 use rf_text::Text;
@@ -82,6 +82,9 @@ fn read_field(alloc: Global, case: &mut Case, line: &str) -> Result<()> {
     if let Some(words) = line.strip_prefix("words ") {
         return read_words(alloc, case, words);
     }
+    if let Some(reads) = line.strip_prefix("reads ") {
+        return read_reads(alloc, case, reads);
+    }
     for (name, part) in PARTS {
         if let Some(numbers) = line.strip_prefix(name) {
             return read_settings(alloc, case, part, numbers);
@@ -130,6 +133,19 @@ fn read_settings(alloc: Global, case: &mut Case, part: Part, line: &str) -> Resu
         push_range(&mut numbers, word)?;
     }
     case.vary(alloc, part, numbers.as_slice())?;
+    Ok(())
+}
+
+// The reads of a run: a number stands for so many, and a name for those of the file.
+fn read_reads(alloc: Global, case: &mut Case, line: &str) -> Result<()> {
+    let mut reads = Vec::new(alloc);
+    for word in line.split(' ') {
+        reads.push(match word.parse::<u64>() {
+            Ok(count) => Reads::Count(count),
+            Err(_) => Reads::File(Text::from_str(alloc, word)?),
+        })?;
+    }
+    case.reads = Some(reads);
     Ok(())
 }
 

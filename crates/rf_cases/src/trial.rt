@@ -55,15 +55,16 @@ fn outcome(alloc: Global, case: &Case, setting: &Setting) -> Result<Outcome, All
     })
 }
 
-/// Runs a case in each of its settings, and prints each that ends otherwise than is wanted.
+/// Runs each trial of a case, and prints each that ends otherwise than is wanted.
 pub fn try_case(rt: &HostRuntime, name: &str, case: &Case) -> Result<bool> {
     let mut has_passed = true;
-    for setting in case.settings.iter() {
+    for trial in case.trials(rt.alloc())?.iter() {
+        let setting = &trial.setting;
+        let wanted = &trial.wanted;
         let got = outcome(rt.alloc(), case, setting)?;
-        if got != case.wanted {
+        if got != *wanted {
             has_passed = false;
             let title = case.title.as_str();
-            let wanted = &case.wanted;
             println!(rt; "{name}: {title}: {setting:?}\n  wanted {wanted}\n  got    {got}")?;
         }
     }

@@ -1,5 +1,5 @@
 -- What is seen command by command.
-use Rattle.std.proofs.Common.{◌≡◌, ℕ, List, Some, true, refl}
+use Rattle.std.proofs.Common.{◌≡◌, ℕ, List, Some, true, refl, arith}
 use Rattle.rf_problem.specs.declared.problem.Problem.{Problem}
 use Rattle.rf_words.specs.declared.request.Command.{Command}
 use Rattle.rf_words.specs.declared.request.Command.TheVariants.{Generate, Check, Verify, Evaluate, Session, Grow}
@@ -7,7 +7,7 @@ use Rattle.rf_run.specs.Accepted.{IsAccepted}
 use Rattle.rf_run.specs.Answers.{Answers}
 use Rattle.rf_run.specs.Commands.{IsWhole, problem_file, second_file}
 use Rattle.rf_run.specs.Ends.{Input, IsSubject, RefusesSubject}
-use Rattle.rf_run.specs.Refuses.{HasBadLine, RefusesProblem, RefusesSecond, is_of_second}
+use Rattle.rf_run.specs.Refuses.{HasBadLine, HasForm, RefusesProblem, RefusesSecond, is_of_second}
 use Rattle.rf_run.specs.Stages.{IsWithin}
 use Rattle.rf_run.specs.declared.end.Reply.{Reply}
 use Rattle.rf_run.specs.declared.refusal.File.{File as Sort}
@@ -80,3 +80,26 @@ within_of_line (Verify file tree) p second sort line bad = absurd bad
 within_of_line (Evaluate file) p second sort line bad = absurd bad
 within_of_line (Session file script) p second sort line bad = absurd bad
 within_of_line (Grow n) p second sort line bad = absurd bad
+
+-- a second file that has its form isn't refused
+pub formed_unrefused :
+    (c : Command) (p : Problem) (second : List ℕ) (r : Refusal) → HasForm c p second → RefusesSecond c p second r → ⊥
+formed_unrefused (Check file graph) p second (TooLong sort) form refuses = omega (arith, form.1.short, refuses.0.1)
+formed_unrefused (Check file graph) p second (NoProblem fault) form refuses = refuses
+formed_unrefused (Check file graph) p second (BadLine Graph line) form refuses = refuses.1.none form.0 form.1.document
+formed_unrefused (Check file graph) p second (BadLine OfProblem line) form refuses = refuses
+formed_unrefused (Check file graph) p second (BadLine Script line) form refuses = refuses
+formed_unrefused (Check file graph) p second (BadLine Tree line) form refuses = refuses
+formed_unrefused (Verify file tree) p second (TooLong sort) form refuses = omega (arith, form, refuses.0.1)
+formed_unrefused (Verify file tree) p second (NoProblem fault) form refuses = refuses
+formed_unrefused (Verify file tree) p second (BadLine sort line) form refuses = refuses
+formed_unrefused (Generate file seed budget json) p second (TooLong sort) form refuses = refuses.0
+formed_unrefused (Generate file seed budget json) p second (NoProblem fault) form refuses = refuses
+formed_unrefused (Generate file seed budget json) p second (BadLine sort line) form refuses = refuses
+formed_unrefused (Evaluate file) p second (TooLong sort) form refuses = refuses.0
+formed_unrefused (Evaluate file) p second (NoProblem fault) form refuses = refuses
+formed_unrefused (Evaluate file) p second (BadLine sort line) form refuses = refuses
+formed_unrefused (Session file script) p second r form refuses = form
+formed_unrefused (Grow n) p second (TooLong sort) form refuses = refuses.0
+formed_unrefused (Grow n) p second (NoProblem fault) form refuses = refuses
+formed_unrefused (Grow n) p second (BadLine sort line) form refuses = refuses

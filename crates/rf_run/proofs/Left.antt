@@ -1,10 +1,12 @@
 -- What a run leaves, whatever is known of its end.
-use Rattle.std.proofs.Common.{◌≡◌, subst, inl, inr}
+use Rattle.std.proofs.Common.{◌≡◌, sym, subst, inl, inr}
 use Rattle.rf_io.specs.Sink.{SinkState}
-use Rattle.rf_run.specs.Leaves.{CameTo, Complained, NoWriteFailed, Wrote}
-use Rattle.rf_run.specs.Stages.{LeftAs}
+use Rattle.rf_run.specs.Leaves.{CameTo, Complained, HasAnswered, NoWriteFailed, Wrote, status_of_sign}
+use Rattle.rf_run.specs.Stages.{IsAnAnswer, LeftAs}
 use Rattle.rf_run.specs.declared.end.End.{End}
 use Rattle.rf_run.specs.declared.end.End.TheVariants.{Usage as EndsUsage, Refused as EndsRefused, Answered}
+use Rattle.rf_run.specs.declared.end.Sign.{Sign}
+use Rattle.rf_run.specs.declared.end.Sign.TheVariants.{Yes as SaysYes, No as SaysNo, Unfinished as SaysUnfinished}
 use Rattle.rf_run.specs.declared.status.Status.{Status}
 use Rattle.rf_run.specs.declared.status.Status.TheVariants.{Yes, No, Usage, Refused, ReadFault, WriteFault, Unfinished, NoMemory}
 
@@ -43,3 +45,20 @@ came_to x end s out out_now err err_now is left wrote said unfailed =
       | inl e ↦ inr (e, wrote, said)
       | inr other ↦ elim other [ inl e ↦ inl e | inr failed ↦ absurd (failed.1 unfailed) ]
     ]
+
+-- the status after an answer
+pub answered_as : (x : End) (s : Status) (out out_now : SinkState) → IsAnAnswer x → LeftAs x s out out_now → HasAnswered s
+answered_as EndsUsage s out out_now is left = absurd is
+answered_as (EndsRefused r) s out out_now is left = absurd is
+answered_as (Answered a) s out out_now is left = elim left [
+  | inl e ↦ subst HasAnswered (sym e) (of_sign a.sign)
+  | inr other ↦ elim other [
+    | inl e ↦ subst HasAnswered (sym e) tt
+    | inr failed ↦ subst HasAnswered (sym failed.0) tt
+  ]
+]
+  where
+    of_sign : (sign : Sign) → HasAnswered (status_of_sign sign)
+    of_sign SaysYes = tt
+    of_sign SaysNo = tt
+    of_sign SaysUnfinished = tt

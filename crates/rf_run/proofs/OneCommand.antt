@@ -5,9 +5,9 @@ use Rattle.rf_problem.specs.declared.problem.Problem.{Problem}
 use Rattle.rf_words.specs.Meaning.{IsCommand}
 use Rattle.rf_words.specs.declared.request.Command.{Command}
 use Rattle.rf_run.specs.Commands.{IsBuilt}
-use Rattle.rf_run.specs.Ends.{Ends, EndsAs, HasEnd, Input, IsInput, IsStoredInput, IsSubject, IsUsage, WasRead}
+use Rattle.rf_run.specs.Ends.{CanAnswer, Ends, EndsAs, HasEnd, Input, IsInput, IsStoredInput, IsSubject, IsUsage, WasRead}
 use Rattle.rf_run.specs.Leaves.{IsRightEnd}
-use Rattle.rf_run.specs.Stages.{EndsOver}
+use Rattle.rf_run.specs.Stages.{EndsOver, IsAnAnswer}
 use Rattle.rf_run.specs.declared.end.Cut.{Cut}
 use Rattle.rf_run.specs.declared.end.Cut.TheVariants.{Memory}
 use Rattle.rf_run.specs.declared.end.End.{End}
@@ -52,6 +52,12 @@ only_complete words s n c result only complete i (Refused r) ends was =
     complete i (Refused r) (subst (λ x. EndsAs x i (Refused r)) (sym (only.one ends.0 ends.2)) ends.3) (was c only.built only.is)
 only_complete words s n c result only complete i (Answered a) ends was =
     complete i (Answered a) (subst (λ x. EndsAs x i (Answered a)) (sym (only.one ends.0 ends.2)) ends.3) (was c only.built only.is)
+
+pub only_answered :
+    (words : List (List ℕ)) (s n : FolderState) (c : Command) (result : Result End Cut) → IsOnly words c →
+    (CanAnswer s n c → MatchResult result IsAnAnswer (λ cut. cut ≡ Memory)) → (d : Command) → IsBuilt d → IsCommand words d →
+    CanAnswer s n d → MatchResult result IsAnAnswer (λ cut. cut ≡ Memory)
+only_answered words s n c result only answered d built is can = answered (subst (CanAnswer s n) (sym (only.one d is)) can)
 
 -- words that are no command that is built end as usage, and in no other way
 pub usage_ended : (words : List (List ℕ)) (s : FolderState) → IsUsage words → HasEnd words s Usage

@@ -1,5 +1,5 @@
 -- A run up to the problem: what it ends with where the problem isn't had, and what is known where it is; and the whole run, by what came after it.
-use Rattle.std.proofs.Common.{◌≡◌, ◌∙◌, ◌⊎◌, ◌++◌, ℕ, List, [], ◌∷◌, Option, Some, Contains, Result, Ok, Err, IfOk, IsErr, IsErrOf, MatchResult, refl, sym, subst, inl, inr, arith}
+use Rattle.std.proofs.Common.{◌≡◌, ◌∙◌, ◌⊎◌, ◌++◌, ℕ, List, [], ◌∷◌, Option, None, Some, Contains, Result, Ok, Err, IfOk, IsErr, IsErrOf, MatchResult, refl, sym, subst, inl, inr, arith}
 use Rattle.std.proofs.lemmas.List.Elements.{Contains-append_right}
 use Rattle.rf_io.specs.Folder.{FolderState, IsMissing, IsTold, NoneFell, ReadFailed, SameFiles, Stores}
 use Rattle.rf_problem.specs.declared.problem.Problem.{Problem}
@@ -7,10 +7,10 @@ use Rattle.rf_words.specs.declared.request.Command.{Command}
 use Rattle.rf_run.specs.Accepted.{IsAccepted}
 use Rattle.rf_run.specs.Answers.{Answers}
 use Rattle.rf_run.specs.Commands.{as_list, files_of, problem_file}
-use Rattle.rf_run.specs.Ends.{EndsAs, Input, IsRead, IsStored, IsStoredInput, IsSubject, MissesFile, NoReadFailed, WasRead, second_name}
+use Rattle.rf_run.specs.Ends.{CanAnswer, EndsAs, Input, IsRead, IsStored, IsStoredInput, IsSubject, MissesFile, NoReadFailed, WasRead, second_name}
 use Rattle.rf_run.specs.Leaves.{IsRightEnd}
-use Rattle.rf_run.specs.Refuses.{RefusesProblem, RefusesSecond}
-use Rattle.rf_run.specs.Stages.{EndsAfter, EndsOn, EndsOver, IsCut, IsStoredSecond, ReadOfSecondFailed, end_of_stop}
+use Rattle.rf_run.specs.Refuses.{HasForm, RefusesProblem, RefusesSecond}
+use Rattle.rf_run.specs.Stages.{EndsAfter, EndsOn, EndsOver, IsAnAnswer, IsCut, IsStoredSecond, ReadOfSecondFailed, end_of_stop}
 use Rattle.rf_run.specs.declared.end.Cut.{Cut}
 use Rattle.rf_run.specs.declared.end.Cut.TheVariants.{ReadFault, Memory}
 use Rattle.rf_run.specs.declared.end.End.{End}
@@ -18,7 +18,7 @@ use Rattle.rf_run.specs.declared.end.End.TheVariants.{Usage, Refused as EndsRefu
 use Rattle.rf_run.specs.declared.refusal.Refusal.{Refusal}
 use Rattle.rf_run.specs.declared.stop.Stop.{Stop}
 use Rattle.rf_run.specs.declared.stop.Stop.TheVariants.{Refused, Cut as WasCut}
-use Rattle.rf_run.proofs.ByCommand.{accepted_of, of_second, refuses_problem, refuses_subject, subject_of}
+use Rattle.rf_run.proofs.ByCommand.{accepted_of, formed_unrefused, of_second, refuses_problem, refuses_subject, subject_of}
 use Rattle.rf_run.proofs.Stores.{bytes_of, bytes_read, failed_later, read_same, read_told, stored_same, told_there, unfailed_later}
 
 -- what is known of the one file
@@ -197,3 +197,53 @@ opened_complete s m n c name p result opened same later rest i (Answered a) ends
     rest.complete i.second (Answered a) (subst (λ x. Answers c x i.second a) (sym is) ends.2)
     (second_stored s m c i.second same was.told.second (was.second refl))
     (unfailed_later s m n (second_name c) later (was.second_read refl))
+
+-- where nothing keeps the command from its answer, no stop is a refusal or a read that failed
+pub unopened_answered :
+    (s m : FolderState) (c : Command) (name : List ℕ) (stop : Stop) → IsUnopened s m c name stop → CanAnswer s m c →
+    MatchResult (end_of_stop stop) IsAnAnswer (λ cut. cut ≡ Memory)
+unopened_answered s m c name stop known can =
+    by_case stop known.fault
+    (known.accepted can.input.problem can.problem (stored_of s (problem_file c) name can.input.problem known.named can.stored.problem)
+    (accepted_of c can.input can.problem name known.named can.subject))
+  where
+    unfailed : ReadFailed s m name → ⊥
+    unfailed = unfailed_of s m (problem_file c) name known.named can.problem_read
+
+    by_case : (stop : Stop) → (stop ≡ WasCut ReadFault → ReadFailed s m name) → IsCut stop → MatchResult (end_of_stop stop) IsAnAnswer (λ cut. cut ≡ Memory)
+    by_case (Refused r) fault cut = absurd cut
+    by_case (WasCut ReadFault) fault cut = absurd (unfailed (fault refl))
+    by_case (WasCut Memory) fault cut = refl
+
+-- the second file that is told is the one of the input, where that is stored
+same_second :
+    (m : FolderState) (c : Command) (bytes second : List ℕ) → IsRead m (second_name c) bytes → IsStoredSecond m c second → bytes ≡ second
+same_second m c bytes second read stored = by_case (second_name c) read stored.told stored.stored
+  where
+    by_case : (f : Option (List ℕ)) → IsRead m f bytes → IsRead m f second → IsStored m f second → bytes ≡ second
+    by_case None read told stored = read ∙ sym told
+    by_case (Some name) read told stored = read second stored
+
+pub opened_answered :
+    (s m n : FolderState) (c : Command) (name : List ℕ) (p : Problem) (result : Result End Cut) → IsOpened s c name p → SameFiles s m →
+    NoneFell s m → IsRest m n c p result → CanAnswer s n c → MatchResult result IsAnAnswer (λ cut. cut ≡ Memory)
+opened_answered s m n c name p (Err Memory) opened same later rest can = refl
+opened_answered s m n c name p (Err ReadFault) opened same later rest can =
+    let failed = rest.fault refl in
+    let unfailed = unfailed_later s m n (second_name c) later can.second_read in
+    absurd (unfailed_of m n (second_name c) failed.name failed.named unfailed failed.failed)
+opened_answered s m n c name p (Ok end) opened same later rest can = by_case end rest.ended.ends
+  where
+    is : p ≡ can.problem
+    is = same_problem s c name p opened can.input can.problem can.stored.problem can.subject
+
+    second : rest.ended.second ≡ can.input.second
+    second = same_second m c rest.ended.second can.input.second rest.ended.told (second_stored s m c can.input.second same can.stored.told.second can.stored.second)
+
+    formed : HasForm c p rest.ended.second
+    formed = rw (is, second) can.formed
+
+    by_case : (end : End) → EndsOn c p rest.ended.second end → IsAnAnswer end
+    by_case Usage ends = absurd ends
+    by_case (EndsRefused r) ends = absurd (formed_unrefused c p rest.ended.second r formed ends)
+    by_case (Answered a) ends = tt

@@ -13,7 +13,7 @@ use Rattle.rf_run.specs.declared.refusal.Refusal.{Refusal}
 use Rattle.rf_run.specs.Accepted.{IsAccepted}
 use Rattle.rf_run.specs.Answers.{Answers}
 use Rattle.rf_run.specs.Commands.{IsBuilt, files_of, problem_file, second_file}
-use Rattle.rf_run.specs.Refuses.{RefusesProblem, RefusesSecond, is_of_second}
+use Rattle.rf_run.specs.Refuses.{HasForm, RefusesProblem, RefusesSecond, is_of_second}
 
 -- the bytes that a run read: those of the problem, and those of the second file, none where the command has no such file
 pub record Input : Type 0 where
@@ -95,6 +95,17 @@ pub record WasRead (old new : FolderState) (c : Command) (i : Input) (end : End)
   pub problem_read : NoReadFailed old new (problem_file c)
   pub second : reads_second end ≡ true → IsStored old (second_name c) i.second
   pub second_read : reads_second end ≡ true → NoReadFailed old new (second_name c)
+
+-- nothing keeps a command from its answer: the folder tells its files, the problem is accepted, the second file has its form, and no
+-- read of them failed
+pub record CanAnswer (old new : FolderState) (c : Command) : Type 0 where
+  pub input : Input
+  pub problem : Problem
+  pub stored : IsStoredInput old c input
+  pub subject : IsSubject c input problem
+  pub formed : HasForm c problem input.second
+  pub problem_read : NoReadFailed old new (problem_file c)
+  pub second_read : NoReadFailed old new (second_name c)
 
 -- a read failed of a file that the words name
 abbrev pub AFileFailed : List (List ℕ) → FolderState → FolderState → Type 0

@@ -56,6 +56,15 @@ abbrev pub IsRightEnd : Command → Problem → List ℕ → End → Type 0
 IsRightEnd c p second (Answered a) = IsRight c p second a
 IsRightEnd c p second _ = Unit {0}
 
+-- the status of a run that came to an answer: that of the answer, or a write of it failed, or memory ran out
+abbrev pub HasAnswered : Status → Type 0
+HasAnswered Yes = Unit {0}
+HasAnswered No = Unit {0}
+HasAnswered Unfinished = Unit {0}
+HasAnswered WriteFault = Unit {0}
+HasAnswered NoMemory = Unit {0}
+HasAnswered _ = ⊥
+
 -- no write of an answer failed
 abbrev pub NoWriteFailed : End → SinkState → SinkState → Type 0
 NoWriteFailed (Answered a) old new = Rose old.faults new.faults → ⊥

@@ -40,6 +40,11 @@ abbrev pub IsCut : Stop → Type 0
 IsCut (Refused r) = ⊥
 IsCut (WasCut cut) = Unit {0}
 
+-- the end is an answer
+abbrev pub IsAnAnswer : End → Type 0
+IsAnAnswer (EndsAnswered a) = Unit {0}
+IsAnAnswer _ = ⊥
+
 -- the end of a run that stops so
 abbrev pub end_of_stop : Stop → Result End Cut
 end_of_stop (Refused r) = Ok (EndsRefused r)

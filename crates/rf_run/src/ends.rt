@@ -6,8 +6,9 @@ ghost use Rattle.rf_problem.specs.declared.problem.Problem.{Problem};
 ghost use Rattle.rf_words.specs.Meaning.{IsCommand};
 ghost use Rattle.rf_words.specs.declared.request.Command.{Command};
 ghost use Rattle.rf_run.specs.Commands.{IsBuilt};
-ghost use Rattle.rf_run.specs.Ends.{AFileFailed, Ends, HasEnd, Input, IsStoredInput, IsSubject, MissesFile, WasRead};
+ghost use Rattle.rf_run.specs.Ends.{AFileFailed, CanAnswer, Ends, HasEnd, Input, IsStoredInput, IsSubject, MissesFile, WasRead};
 ghost use Rattle.rf_run.specs.Leaves.{IsRightEnd};
+ghost use Rattle.rf_run.specs.Stages.{IsAnAnswer};
 ghost use Rattle.rf_run.specs.declared.end.End.{End};
 
 use crate::built::{BuiltJob, job_of};
@@ -33,6 +34,9 @@ pub fn end_of<F: Folder>(alloc: Global, words: &[Text], folder: &mut F) -> Resul
         → ((c : Command) → IsBuilt c → IsCommand words.now c
         → WasRead (F.state folder.old) (F.state folder.new) c i end)
         → MatchResult result (λ e. e ≡ end) (λ cut. cut ≡ Cut.Memory) }
+    ensures answered { (c : Command) → IsBuilt c → IsCommand words.now c
+        → CanAnswer (F.state folder.old) (F.state folder.new) c
+        → MatchResult result IsAnAnswer (λ cut. cut ≡ Cut.Memory) }
     ensures same { SameFiles (F.state folder.old) (F.state folder.new) }
     ensures later { NoneFell (F.state folder.old) (F.state folder.new) }
 {

@@ -5,11 +5,11 @@ ghost use Rattle.rf_io.specs.Folder.{IsMissing, IsTold, NoneFell, ReadFailed, Sa
 ghost use Rattle.rf_problem.specs.declared.problem.Problem.{Problem};
 ghost use Rattle.rf_run.specs.Accepted.{IsAccepted};
 ghost use Rattle.rf_run.specs.Commands.{files_of};
-ghost use Rattle.rf_run.specs.Ends.{EndsAs, Input, IsStoredInput, IsSubject, MissesFile, NoReadFailed, WasRead, second_name};
+ghost use Rattle.rf_run.specs.Ends.{CanAnswer, EndsAs, Input, IsStoredInput, IsSubject, MissesFile, NoReadFailed, WasRead, second_name};
 ghost use Rattle.rf_run.specs.Leaves.{IsRightEnd};
 ghost use Rattle.rf_run.specs.Refuses.{RefusesProblem};
 ghost use Rattle.rf_run.specs.Jobs.{file_command};
-ghost use Rattle.rf_run.specs.Stages.{EndsAfter, EndsOn, EndsOver, IsCut, IsLongSecond, IsSecond, IsStoredSecond, ReadOfSecondFailed, SecondFailed, second_of, stop_of_read};
+ghost use Rattle.rf_run.specs.Stages.{EndsAfter, EndsOn, EndsOver, IsAnAnswer, IsCut, IsLongSecond, IsSecond, IsStoredSecond, ReadOfSecondFailed, SecondFailed, second_of, stop_of_read};
 ghost use Rattle.rf_run.specs.declared.end.End.{End};
 
 use crate::built::FileJob;
@@ -163,6 +163,10 @@ pub fn over_files<F: Folder>(alloc: Global, folder: &mut F, job: &FileJob) -> Re
     ensures complete { (i : Input) (end : End) → EndsAs (file_command job.now) i end
         → WasRead (F.state folder.old) (F.state folder.new) (file_command job.now) i end
         → MatchResult result (λ e. e ≡ end) (λ cut. cut ≡ Cut.Memory) }
+
+    // Where nothing keeps the command from its answer, it is answered, or memory ran out.
+    ensures answered { CanAnswer (F.state folder.old) (F.state folder.new) (file_command job.now)
+        → MatchResult result IsAnAnswer (λ cut. cut ≡ Cut.Memory) }
 
     ensures same { SameFiles (F.state folder.old) (F.state folder.new) }
     ensures later { NoneFell (F.state folder.old) (F.state folder.new) }

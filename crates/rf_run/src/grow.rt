@@ -10,7 +10,7 @@ ghost use Rattle.rf_run.specs.Answers.{AnswersGrow, IsRightGrowth};
 ghost use Rattle.rf_run.specs.Ends.{EndsAs, Input};
 ghost use Rattle.rf_run.specs.Leaves.{IsRightEnd};
 ghost use Rattle.rf_run.specs.Outcome.{counts_line, outcome_line, sign_of_outcome};
-ghost use Rattle.rf_run.specs.Stages.{no_input};
+ghost use Rattle.rf_run.specs.Stages.{IsAnAnswer, no_input};
 ghost use Rattle.rf_run.specs.declared.end.End.{End as TheEnd};
 ghost use Rattle.rf_run.specs.declared.end.Reply.{Reply as TheReply};
 
@@ -114,6 +114,7 @@ pub fn over_number(alloc: Global, job: &GrowJob) -> Result<End, Cut>
         → IfOk result (IsRightEnd (Grow job.now.n) p second) }
     ensures complete { (i : Input) (end : TheEnd) → EndsAs (Grow job.now.n) i end
         → MatchResult result (λ e. e ≡ end) (λ cut. cut ≡ Cut.Memory) }
+    ensures answered { MatchResult result IsAnAnswer (λ cut. cut ≡ Cut.Memory) }
     ensures memory { IfErr result (λ cut. cut ≡ Cut.Memory) }
 {
     match answer(alloc, job) {

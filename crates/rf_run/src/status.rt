@@ -16,7 +16,7 @@ pub enum Status {
     ReadFault = 4,
     /// A write of the answer failed in this run.
     WriteFault = 5,
-    /// The budget was spent. No command of today ends so.
+    /// The budget was spent, or a tree is unfinished.
     Unfinished = 6,
     /// Memory ran out.
     NoMemory = 7,

@@ -5,9 +5,9 @@ ghost use Rattle.rf_problem.specs.declared.problem.Problem.{Problem};
 ghost use Rattle.rf_words.specs.Meaning.{IsCommand};
 ghost use Rattle.rf_words.specs.declared.request.Command.{Command};
 ghost use Rattle.rf_run.specs.Commands.{IsBuilt};
-ghost use Rattle.rf_run.specs.Ends.{AFileFailed, Ends, HasEnd, Input, IsStoredInput, IsSubject, MissesFile, WasRead};
-ghost use Rattle.rf_run.specs.Leaves.{CameTo, Complained, IsRightEnd, NoWriteFailed, Wrote};
 ghost use Rattle.rf_run.specs.Answers.{HasEnough};
+ghost use Rattle.rf_run.specs.Ends.{AFileFailed, CanAnswer, Ends, HasEnd, Input, IsStoredInput, IsSubject, MissesFile, WasRead};
+ghost use Rattle.rf_run.specs.Leaves.{CameTo, Complained, HasAnswered, IsRightEnd, NoWriteFailed, Wrote};
 ghost use Rattle.rf_run.specs.declared.end.End.{End};
 
 use crate::Status;
@@ -68,6 +68,12 @@ pub fn run<F: Folder, O: Sink, E: Sink>(
         → NoWriteFailed end (O.state out.old) (O.state out.new)
         → CameTo end result (O.state out.old) (O.state out.new)
         (E.state err.old) (E.state err.new) }
+
+    // There is such an end for every problem that is accepted, with a second file of its form: a command is
+    // answered, unless a read of its files failed, or a write of the answer, or memory ran out.
+    ensures answered { (c : Command) → IsBuilt c → IsCommand words.now c
+        → CanAnswer (F.state folder.old) (F.state folder.new) c
+        → HasAnswered result }
 
     // The folder tells the same as before, and no count of faults fell.
     ensures same { SameFiles (F.state folder.old) (F.state folder.new) }

@@ -6,7 +6,7 @@ use Rattle.rf_run.specs.Jobs.{command_of, file_command}
 use Rattle.rf_words.specs.declared.request.Command.TheVariants.{Grow}
 use Rattle.rf_run.proofs.Grown.{growth_ended}
 use Rattle.rf_run.proofs.Limits.{fits_limits}
-use Rattle.rf_run.proofs.OneCommand.{IsOnly, only_complete, only_ended, only_right, usage_ended}
+use Rattle.rf_run.proofs.OneCommand.{IsOnly, only_answered, only_complete, only_ended, only_right, usage_ended}
 use Rattle.rf_run.proofs.ends.end_of.Goals as goal
 
 pub returns-in-Some-OverFile-clause-ended : goal.returns-in-Some-OverFile-clause-ended
@@ -40,6 +40,17 @@ returns-in-Some-OverFile-clause-complete g c =
     only_complete c.args.words.now (g.F.Folder.state c.args.folder.now) (g.F.Folder.state c.over_files.new.folder) _ c.over_files.result only
     c.over_files.ensures.complete
 
+pub returns-in-Some-OverFile-clause-answered : goal.returns-in-Some-OverFile-clause-answered
+returns-in-Some-OverFile-clause-answered g c =
+    let job : command_of c.in-Some-OverFile.field-0 ≡ file_command c.in-Some-OverFile.job = ap command_of c.in-Some-OverFile.field-0-is in
+    let only : IsOnly c.args.words.now (file_command c.in-Some-OverFile.job) = record {
+      built = subst IsBuilt job c.in-Some-OverFile.ensures.built;
+      is = subst (IsCommand c.args.words.now) (c.in-Some-OverFile.ensures.some ∙ job) c.in-Ok.ensures.ok;
+      one = λ d is. sym (c.in-Some-OverFile.ensures.some ∙ job) ∙ c.in-Ok.ensures.found d is;
+    } in
+    only_answered c.args.words.now (g.F.Folder.state c.args.folder.now) (g.F.Folder.state c.over_files.new.folder) _ c.over_files.result only
+    c.over_files.ensures.answered
+
 pub returns-in-Some-Grow-clause-ended : goal.returns-in-Some-Grow-clause-ended
 returns-in-Some-Grow-clause-ended g c =
     let job : command_of c.in-Some-Grow.field-0 ≡ Grow c.in-Some-Grow.job.n = ap command_of c.in-Some-Grow.field-0-is in
@@ -72,6 +83,24 @@ returns-in-Some-Grow-clause-complete g c =
     } in
     only_complete c.args.words.now (g.F.Folder.state c.args.folder.now) (g.F.Folder.state c.args.folder.now) _ c.over_number.result only
     (λ i end ends was. c.over_number.ensures.complete i end ends)
+
+pub returns-in-Some-Grow-clause-answered : goal.returns-in-Some-Grow-clause-answered
+returns-in-Some-Grow-clause-answered g c =
+    let job : command_of c.in-Some-Grow.field-0 ≡ Grow c.in-Some-Grow.job.n = ap command_of c.in-Some-Grow.field-0-is in
+    let only : IsOnly c.args.words.now (Grow c.in-Some-Grow.job.n) = record {
+      built = subst IsBuilt job c.in-Some-Grow.ensures.built;
+      is = subst (IsCommand c.args.words.now) (c.in-Some-Grow.ensures.some ∙ job) c.in-Ok.ensures.ok;
+      one = λ d is. sym (c.in-Some-Grow.ensures.some ∙ job) ∙ c.in-Ok.ensures.found d is;
+    } in
+    only_answered c.args.words.now (g.F.Folder.state c.args.folder.now) (g.F.Folder.state c.args.folder.now) _ c.over_number.result only
+    (λ can. c.over_number.ensures.answered)
+
+pub returns-in-None-clause-answered : goal.returns-in-None-clause-answered
+returns-in-None-clause-answered g c = λ d built is can.
+    absurd (c.in-None.ensures.none refl (subst IsBuilt (sym (c.in-Ok.ensures.found d is)) built))
+
+pub returns-in-Err-Usage-clause-answered : goal.returns-in-Err-Usage-clause-answered
+returns-in-Err-Usage-clause-answered g c = λ d built is can. absurd (c.in-Err-Usage.ensures.usage c.in-Err-Usage.field-0-is d is)
 
 pub returns-in-None-clause-ended : goal.returns-in-None-clause-ended
 returns-in-None-clause-ended g c =

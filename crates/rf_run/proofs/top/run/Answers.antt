@@ -2,7 +2,7 @@ use Rattle.std.proofs.Common.{◌≡◌, sym, subst}
 use Rattle.rf_run.specs.Ends.{HasEnd}
 use Rattle.rf_run.specs.Leaves.{IsRightEnd}
 use Rattle.rf_run.proofs.Enough.{not_unfinished}
-use Rattle.rf_run.proofs.Left.{came_to, complained_as, wrote_as}
+use Rattle.rf_run.proofs.Left.{answered_as, came_to, complained_as, wrote_as}
 use Rattle.rf_run.proofs.top.run.Goals as goal
 
 pub returns-in-Ok-clause-wrote : goal.returns-in-Ok-clause-wrote
@@ -35,3 +35,8 @@ returns-in-Ok-clause-complete g c = λ i end ends was unfailed.
     came_to c.in-Ok.end end c.leave.result (g.O.Sink.state c.args.out.now) (g.O.Sink.state c.leave.new.out) (g.E.Sink.state c.args.err.now) (g.E.Sink.state c.leave.new.err)
     (c.in-Ok.ensures.complete i end ends was) c.leave.ensures.status c.leave.ensures.wrote
     c.leave.ensures.complained unfailed
+
+pub returns-in-Ok-clause-answered : goal.returns-in-Ok-clause-answered
+returns-in-Ok-clause-answered g c = λ d built is can.
+    answered_as c.in-Ok.end c.leave.result (g.O.Sink.state c.args.out.now) (g.O.Sink.state c.leave.new.out)
+    (c.in-Ok.ensures.answered d built is can) c.leave.ensures.status
