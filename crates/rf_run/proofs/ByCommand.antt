@@ -23,13 +23,13 @@ subject_of (Evaluate file) i p name is accepted = accepted
 subject_of (Session file script) i p name is accepted = accepted
 subject_of (Grow n) i p name is accepted = absurd cc
 
-pub accepted_of : (c : Command) (i : Input) (p : Problem) → IsSubject c i p → IsAccepted i.problem p
-accepted_of (Generate file seed budget json) i p subject = subject
-accepted_of (Check file graph) i p subject = subject
-accepted_of (Verify file tree) i p subject = subject
-accepted_of (Evaluate file) i p subject = subject
-accepted_of (Session file script) i p subject = subject
-accepted_of (Grow n) i p subject = absurd subject
+pub accepted_of : (c : Command) (i : Input) (p : Problem) (name : List ℕ) → problem_file c ≡ Some name → IsSubject c i p → IsAccepted i.problem p
+accepted_of (Generate file seed budget json) i p name is subject = subject
+accepted_of (Check file graph) i p name is subject = subject
+accepted_of (Verify file tree) i p name is subject = subject
+accepted_of (Evaluate file) i p name is subject = subject
+accepted_of (Session file script) i p name is subject = subject
+accepted_of (Grow n) i p name is subject = absurd cc
 
 pub refuses_subject :
     (c : Command) (i : Input) (r : Refusal) (name : List ℕ) → problem_file c ≡ Some name → RefusesProblem i.problem r → RefusesSubject c i r
@@ -67,7 +67,7 @@ within_of_answer (Generate file seed budget json) p second a whole answers = tt
 within_of_answer (Verify file tree) p second a whole answers = absurd whole
 within_of_answer (Evaluate file) p second a whole answers = tt
 within_of_answer (Session file script) p second a whole answers = absurd answers
-within_of_answer (Grow n) p second a whole answers = absurd answers
+within_of_answer (Grow n) p second a whole answers = tt
 
 pub within_of_line :
     (c : Command) (p : Problem) (second : List ℕ) (sort : Sort) (line : ℕ) → HasBadLine c p second sort line → IsWithin (second_file c) second

@@ -1,23 +1,18 @@
 -- What `generate` answers, and that it is right.
-use Rattle.std.proofs.Common.{◌≡◌, ◌∙◌, ◌⊎◌, ℕ, List, [], ◌∷◌, ◌++◌, All, Ok, Err, MatchResult, false, refl, sym, ap, subst, inl, inr}
+use Rattle.std.proofs.Common.{◌≡◌, ◌∙◌, ℕ, List, [], ◌++◌, All, Ok, false, refl, sym, subst}
 use Rattle.std.proofs.lemmas.List.Elements.{All-append, All-cons, All-nil}
 use Rattle.rf_failure.specs.Answers.{Answers as Decides}
-use Rattle.rf_failure.specs.declared.Failure.{Failure}
-use Rattle.rf_failure.specs.declared.Failure.TheVariants.{Fault, Memory}
 use Rattle.rf_problem.specs.declared.problem.Problem.{Problem}
 use Rattle.rf_state.specs.State.{State}
-use Rattle.rf_graph.specs.Violations.{Sat}
-use Rattle.rf_graph.specs.declared.graph.Graph.{Graph}
 use Rattle.rf_tree.specs.Document.{FitsKind}
-use Rattle.rf_tree.specs.Lines.{Open, Valid, lines_of}
+use Rattle.rf_tree.specs.Lines.{lines_of}
 use Rattle.rf_tree.specs.Outcomes.{IsRightOutcome}
-use Rattle.rf_tree.specs.Pending.{decisions_in}
 use Rattle.rf_tree.specs.Trees.{FitsTree, Tree, choice, closing, effect, hole}
-use Rattle.rf_tree.specs.declared.line.Line.{Line}
 use Rattle.rf_tree.specs.declared.line.Line.TheVariants.{Close, Decide, Step}
 use Rattle.rf_tree.specs.declared.outcome.Outcome.{Outcome}
 use Rattle.rf_tree.specs.declared.outcome.Outcome.TheVariants.{Found, Refuted, Unfinished}
 use Rattle.rf_soundness.proofs.Trees.{valid_is_sound}
+use Rattle.rf_depth.specs.Outcomes.{IsEnough, IsFinished, IsShallow}
 use Rattle.rf_search.specs.Outcome.{IsOutcome}
 use Rattle.rf_search.proofs.OnceLemmas.{outcome_once}
 use Rattle.rf_words.specs.declared.request.Command.TheVariants.{Generate}
@@ -45,17 +40,20 @@ outcome_fits p budget (Unfinished lines) right = subst (All FitsKind) (sym right
 
 -- what is printed of it is right in the user's words
 pub generation_right :
-    (p : Problem) (budget : ℕ) (outcome : Outcome) (reply : Reply) → IsRightOutcome p budget outcome → IsDocumentOf p outcome reply.text →
+    (p : Problem) (budget : ℕ) (outcome : Outcome) (reply : Reply) → IsRightOutcome p budget outcome → IsShallow p outcome →
+    (IsEnough p budget → IsFinished outcome) → IsDocumentOf p outcome reply.text →
     reply.sign ≡ sign_of_outcome outcome → IsRightGeneration p budget reply.text reply.sign
-generation_right p budget (Found g) reply right document sign = rw sign (record { graph = g; document = document; satisfies = right })
-generation_right p budget (Refuted lines) reply right document sign = rw sign (record {
+generation_right p budget (Found g) reply right shallow enough document sign = rw sign (record { graph = g; document = document; satisfies = right })
+generation_right p budget (Refuted lines) reply right shallow enough document sign = rw sign (record {
   lines = lines;
   document = document;
   valid = right;
   accepted = record { lines = lines; document = document; valid = right; counted = refl };
+  shallow = shallow;
   no_graph = valid_is_sound p lines right;
 })
-generation_right p budget (Unfinished lines) reply right document sign = rw sign (record { lines = lines; document = document; unfinished = right })
+generation_right p budget (Unfinished lines) reply right shallow enough document sign =
+    rw sign (record { lines = lines; document = document; unfinished = right; shallow = shallow; too_few = enough })
 
 -- there is one reply
 same_reply : (p : Problem) (outcome : Outcome) (a b : Reply) → a.text ≡ outcome_text p outcome → b.text ≡ outcome_text p outcome

@@ -11,4 +11,6 @@ pub mod Trees
 pub mod Verified
 pub mod TreeFacts
 pub mod Generated
-pub mod Budgets
+pub mod Limits
+pub mod Grown
+pub mod Enough

@@ -58,7 +58,7 @@ unopened_missing s m c name (Refused r) known misses =
           absurd (told_there s name here.0 here.1 (subst (IsMissing s) (sym same) one.2)))
       | inr one ↦
           absurd (known.accepted one.input.problem one.problem (stored_of s (problem_file c) name one.input.problem known.named one.stored)
-          (accepted_of c one.input one.problem one.subject))
+          (accepted_of c one.input one.problem name known.named one.subject))
     ]
 
 -- a stage that was cut short though no read failed, ran out of memory
@@ -82,12 +82,12 @@ unopened_complete s m c name stop known i (EndsRefused r) ends was =
         | inr cut ↦ cut_short (ReadFailed s m name) (EndsRefused r) stop cut known.fault unfailed
       ]
       | inr one ↦
-          cut_short (ReadFailed s m name) (EndsRefused r) stop (known.accepted i.problem one.0 stores (accepted_of c i one.0 one.1)) known.fault unfailed
+          cut_short (ReadFailed s m name) (EndsRefused r) stop (known.accepted i.problem one.0 stores (accepted_of c i one.0 name known.named one.1)) known.fault unfailed
     ]
 unopened_complete s m c name stop known i (Answered a) ends was =
     let stores = stored_of s (problem_file c) name i.problem known.named was.problem in
     let unfailed = unfailed_of s m (problem_file c) name known.named was.problem_read in
-    cut_short (ReadFailed s m name) (Answered a) stop (known.accepted i.problem ends.0 stores (accepted_of c i ends.0 ends.1)) known.fault unfailed
+    cut_short (ReadFailed s m name) (Answered a) stop (known.accepted i.problem ends.0 stores (accepted_of c i ends.0 name known.named ends.1)) known.fault unfailed
 
 -- the problem was had
 pub record IsOpened (s : FolderState) (c : Command) (name : List ℕ) (p : Problem) : Type 0 where
@@ -143,7 +143,7 @@ same_problem :
     (s : FolderState) (c : Command) (name : List ℕ) (p : Problem) → IsOpened s c name p → (i : Input) (q : Problem) →
     IsStored s (problem_file c) i.problem → IsSubject c i q → p ≡ q
 same_problem s c name p opened i q stored subject =
-    opened.accepted i.problem q (stored_of s (problem_file c) name i.problem opened.named stored) (accepted_of c i q subject)
+    opened.accepted i.problem q (stored_of s (problem_file c) name i.problem opened.named stored) (accepted_of c i q name opened.named subject)
 
 pub opened_right :
     (s m n : FolderState) (c : Command) (name : List ℕ) (p : Problem) (result : Result End Cut) → IsOpened s c name p → SameFiles s m →
@@ -205,7 +205,7 @@ pub unopened_answered :
 unopened_answered s m c name stop known can =
     by_case stop known.fault
     (known.accepted can.input.problem can.problem (stored_of s (problem_file c) name can.input.problem known.named can.stored.problem)
-    (accepted_of c can.input can.problem can.subject))
+    (accepted_of c can.input can.problem name known.named can.subject))
   where
     unfailed : ReadFailed s m name → ⊥
     unfailed = unfailed_of s m (problem_file c) name known.named can.problem_read

@@ -2,6 +2,7 @@
 use Rattle.std.specs.Prelude.{◌≡◌, ◌≤◌, ℕ, false, List, [], ◌∷◌, ◌++◌, Option, None, Some}
 use Rattle.std.specs.Option.{option_map}
 use Rattle.rf_bounds.specs.declared.TheConstants.{MOST_DECISIONS}
+use Rattle.rf_words.specs.declared.request.TheConstants.{MOST_GROWTH}
 use Rattle.rf_words.specs.declared.request.Command.{Command}
 use Rattle.rf_words.specs.declared.request.Command.TheVariants.{Generate, Check, Verify, Evaluate, Session, Grow}
 use Rattle.rf_run.specs.declared.refusal.File.{File as Sort}
@@ -14,14 +15,16 @@ IsBuilt (Generate file seed budget json) = json ≡ false
 IsBuilt (Check file graph) = Unit {0}
 IsBuilt (Evaluate file) = Unit {0}
 IsBuilt (Verify file tree) = Unit {0}
+IsBuilt (Grow n) = Unit {0}
 IsBuilt _ = ⊥
 
--- a budget is at least 1, and within its limit
-abbrev pub HasBudget : Command → Type 0
-HasBudget (Generate file seed budget json) = (1 ≤ budget) × (budget ≤ MOST_DECISIONS)
-HasBudget _ = Unit {0}
+-- a budget, and the number of a grown problem, are at least 1 and within their limits
+abbrev pub FitsLimits : Command → Type 0
+FitsLimits (Generate file seed budget json) = (1 ≤ budget) × (budget ≤ MOST_DECISIONS)
+FitsLimits (Grow n) = (1 ≤ n) × (n ≤ MOST_GROWTH)
+FitsLimits _ = Unit {0}
 
--- the file of the problem
+-- the file of the problem; `grow` makes its own
 abbrev pub problem_file : Command → Option (List ℕ)
 problem_file (Generate file seed budget json) = Some file
 problem_file (Check file graph) = Some file

@@ -2,6 +2,7 @@
 use Rattle.std.specs.Prelude.{◌≡◌, ◌⊎◌, ℕ, List, [], Option, None, Some, Contains, Bool, true, false}
 use Rattle.std.specs.Option.{option_map}
 use Rattle.rf_io.specs.Folder.{FolderState, IsMissing, ReadFailed, Stores}
+use Rattle.rf_grow.specs.Grown.{IsGrown}
 use Rattle.rf_problem.specs.declared.problem.Problem.{Problem}
 use Rattle.rf_words.specs.Meaning.{IsCommand}
 use Rattle.rf_words.specs.declared.request.Command.{Command}
@@ -14,14 +15,14 @@ use Rattle.rf_run.specs.Answers.{Answers}
 use Rattle.rf_run.specs.Commands.{IsBuilt, files_of, problem_file, second_file}
 use Rattle.rf_run.specs.Refuses.{HasForm, RefusesProblem, RefusesSecond, is_of_second}
 
--- the bytes that a run read: those of the problem, and those of the second file, none where the command has none
+-- the bytes that a run read: those of the problem, and those of the second file, none where the command has no such file
 pub record Input : Type 0 where
   pub problem : List ℕ
   pub second : List ℕ
 
--- a command is about this problem
+-- a command is about this problem: the one that its file is a text of, or that of its number
 abbrev pub IsSubject : Command → Input → Problem → Type 0
-IsSubject (Grow n) i p = ⊥
+IsSubject (Grow n) i p = IsGrown n p
 IsSubject _ i p = IsAccepted i.problem p
 
 -- the problem of a command is refused

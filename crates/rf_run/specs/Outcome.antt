@@ -1,9 +1,10 @@
 -- How what a search ends with is printed.
-use Rattle.std.specs.Prelude.{ℕ, List, All}
+use Rattle.std.specs.Prelude.{ℕ, List, [], ◌∷◌, ◌++◌, All, codes, length}
 use Rattle.rf_problem.specs.declared.problem.Problem.{Problem}
 use Rattle.rf_graph.specs.Document.{IsDocument, document}
 use Rattle.rf_graph.specs.Graph.{Fits}
-use Rattle.rf_tree.specs.Document.{FitsKind, IsTreeDocument, tree_document}
+use Rattle.rf_tree.specs.Document.{FitsKind, IsTreeDocument, spaced, tree_document}
+use Rattle.rf_tree.specs.Pending.{decisions_in}
 use Rattle.rf_tree.specs.declared.format.Format.TheVariants.{Two}
 use Rattle.rf_tree.specs.declared.outcome.Outcome.{Outcome}
 use Rattle.rf_tree.specs.declared.outcome.Outcome.TheVariants.{Found, Refuted, Unfinished}
@@ -15,6 +16,16 @@ abbrev pub outcome_text : Problem → Outcome → List ℕ
 outcome_text p (Found g) = document p g
 outcome_text p (Refuted lines) = tree_document Two lines
 outcome_text p (Unfinished lines) = tree_document Two lines
+
+-- two numbers after a word
+abbrev pub counts_line : List ℕ → ℕ → ℕ → List ℕ
+counts_line word first second = word ++ (spaced (first ∷ second ∷ []) ++ codes "\n")
+
+-- in one line: how many nodes and edges a graph has, how many decisions and lines a tree
+abbrev pub outcome_line : Outcome → List ℕ
+outcome_line (Found g) = counts_line (codes "graph") (length g.nodes) (length g.edges)
+outcome_line (Refuted lines) = counts_line (codes "refuted") (decisions_in lines) (length lines)
+outcome_line (Unfinished lines) = counts_line (codes "unfinished") (decisions_in lines) (length lines)
 
 -- a graph is a yes, a refutation a no
 abbrev pub sign_of_outcome : Outcome → Sign

@@ -31,6 +31,10 @@ use Rattle.rf_run.specs.Answers.{Answers}
 use Rattle.rf_run.specs.Ends.{EndsAs, Input, IsInput, IsRead, IsStored, second_name}
 use Rattle.rf_run.specs.Refuses.{RefusesSecond}
 
+-- the input of a run that reads no file
+abbrev pub no_input : Input
+no_input = record { problem = []; second = [] }
+
 -- a stage was cut short: a read failed, or memory ran out
 abbrev pub IsCut : Stop → Type 0
 IsCut (Refused r) = ⊥

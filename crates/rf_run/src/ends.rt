@@ -11,9 +11,10 @@ ghost use Rattle.rf_run.specs.Leaves.{IsRightEnd};
 ghost use Rattle.rf_run.specs.Stages.{IsAnAnswer};
 ghost use Rattle.rf_run.specs.declared.end.End.{End};
 
-use crate::built::job_of;
+use crate::built::{BuiltJob, job_of};
 use crate::end::{Cut, End};
 use crate::files::over_files;
+use crate::grow::over_number;
 use rf_io::Folder;
 use rf_text::Text;
 use rf_words::{WordsError, command};
@@ -41,7 +42,8 @@ pub fn end_of<F: Folder>(alloc: Global, words: &[Text], folder: &mut F) -> Resul
 {
     match command(alloc, words) {
         Ok(command) => match job_of(command) {
-            Some(job) => over_files(alloc, folder, &job),
+            Some(BuiltJob::OverFile(job)) => over_files(alloc, folder, &job),
+            Some(BuiltJob::Grow(job)) => over_number(alloc, &job),
             None => Ok(End::Usage),
         },
         Err(WordsError::Usage) => Ok(End::Usage),

@@ -8,11 +8,11 @@ ghost use Rattle.rf_run.specs.Commands.{files_of};
 ghost use Rattle.rf_run.specs.Ends.{CanAnswer, EndsAs, Input, IsStoredInput, IsSubject, MissesFile, NoReadFailed, WasRead, second_name};
 ghost use Rattle.rf_run.specs.Leaves.{IsRightEnd};
 ghost use Rattle.rf_run.specs.Refuses.{RefusesProblem};
-ghost use Rattle.rf_run.specs.Jobs.{command_of};
+ghost use Rattle.rf_run.specs.Jobs.{file_command};
 ghost use Rattle.rf_run.specs.Stages.{EndsAfter, EndsOn, EndsOver, IsAnAnswer, IsCut, IsLongSecond, IsSecond, IsStoredSecond, ReadOfSecondFailed, SecondFailed, second_of, stop_of_read};
 ghost use Rattle.rf_run.specs.declared.end.End.{End};
 
-use crate::built::BuiltJob;
+use crate::built::FileJob;
 use crate::end::{Cut, End};
 use crate::job::{Job, Second};
 use crate::refusal::PROBLEM_LIMIT;
@@ -123,49 +123,49 @@ fn over_second<F: Folder, J: Job>(
 fn after_problem<F: Folder>(
     alloc: Global,
     folder: &mut F,
-    job: &BuiltJob,
+    job: &FileJob,
     problem: &Problem,
 ) -> Result<End, Cut>
-    ensures ended { IfOk result (EndsAfter (F.state folder.old) (command_of job.now) problem.now) }
-    ensures right { (second : List ℕ) → IsStoredSecond (F.state folder.old) (command_of job.now) second
-        → IfOk result (IsRightEnd (command_of job.now) problem.now second) }
+    ensures ended { IfOk result (EndsAfter (F.state folder.old) (file_command job.now) problem.now) }
+    ensures right { (second : List ℕ) → IsStoredSecond (F.state folder.old) (file_command job.now) second
+        → IfOk result (IsRightEnd (file_command job.now) problem.now second) }
     ensures fault { IsErrOf result Cut.ReadFault
-        → ReadOfSecondFailed (F.state folder.old) (F.state folder.new) (command_of job.now) }
-    ensures missing { (name : List ℕ) → second_name (command_of job.now) ≡ Some name
+        → ReadOfSecondFailed (F.state folder.old) (F.state folder.new) (file_command job.now) }
+    ensures missing { (name : List ℕ) → second_name (file_command job.now) ≡ Some name
         → IsMissing (F.state folder.old) name → IsErr result }
-    ensures complete { (second : List ℕ) (end : End) → EndsOn (command_of job.now) problem.now second end
-        → IsStoredSecond (F.state folder.old) (command_of job.now) second
-        → NoReadFailed (F.state folder.old) (F.state folder.new) (second_name (command_of job.now))
+    ensures complete { (second : List ℕ) (end : End) → EndsOn (file_command job.now) problem.now second end
+        → IsStoredSecond (F.state folder.old) (file_command job.now) second
+        → NoReadFailed (F.state folder.old) (F.state folder.new) (second_name (file_command job.now))
         → MatchResult result (λ e. e ≡ end) (λ cut. cut ≡ Cut.Memory) }
     ensures same { SameFiles (F.state folder.old) (F.state folder.new) }
     ensures later { NoneFell (F.state folder.old) (F.state folder.new) }
 {
     match job {
-        BuiltJob::Check(job) => over_second(alloc, folder, job, problem),
-        BuiltJob::Evaluate(job) => over_second(alloc, folder, job, problem),
-        BuiltJob::Generate(job) => over_second(alloc, folder, job, problem),
-        BuiltJob::Verify(job) => over_tree(alloc, folder, job, problem),
+        FileJob::Check(job) => over_second(alloc, folder, job, problem),
+        FileJob::Evaluate(job) => over_second(alloc, folder, job, problem),
+        FileJob::Generate(job) => over_second(alloc, folder, job, problem),
+        FileJob::Verify(job) => over_tree(alloc, folder, job, problem),
     }
 }
 
 /// How a job ends over its files.
-pub fn over_files<F: Folder>(alloc: Global, folder: &mut F, job: &BuiltJob) -> Result<End, Cut>
-    ensures ended { IfOk result (EndsOver (F.state folder.old) (command_of job.now)) }
-    ensures right { (i : Input) (p : Problem) → IsStoredInput (F.state folder.old) (command_of job.now) i
-        → IsSubject (command_of job.now) i p
-        → IfOk result (IsRightEnd (command_of job.now) p i.second) }
+pub fn over_files<F: Folder>(alloc: Global, folder: &mut F, job: &FileJob) -> Result<End, Cut>
+    ensures ended { IfOk result (EndsOver (F.state folder.old) (file_command job.now)) }
+    ensures right { (i : Input) (p : Problem) → IsStoredInput (F.state folder.old) (file_command job.now) i
+        → IsSubject (file_command job.now) i p
+        → IfOk result (IsRightEnd (file_command job.now) p i.second) }
     ensures fault { IsErrOf result Cut.ReadFault → (name : List ℕ)
-        × Contains (files_of (command_of job.now)) name
+        × Contains (files_of (file_command job.now)) name
         × ReadFailed (F.state folder.old) (F.state folder.new) name }
-    ensures missing { MissesFile (F.state folder.old) (command_of job.now) → IsErr result }
+    ensures missing { MissesFile (F.state folder.old) (file_command job.now) → IsErr result }
 
     // What is told decides, unless a read failed or memory ran out.
-    ensures complete { (i : Input) (end : End) → EndsAs (command_of job.now) i end
-        → WasRead (F.state folder.old) (F.state folder.new) (command_of job.now) i end
+    ensures complete { (i : Input) (end : End) → EndsAs (file_command job.now) i end
+        → WasRead (F.state folder.old) (F.state folder.new) (file_command job.now) i end
         → MatchResult result (λ e. e ≡ end) (λ cut. cut ≡ Cut.Memory) }
 
     // Where nothing keeps the command from its answer, it is answered, or memory ran out.
-    ensures answered { CanAnswer (F.state folder.old) (F.state folder.new) (command_of job.now)
+    ensures answered { CanAnswer (F.state folder.old) (F.state folder.new) (file_command job.now)
         → MatchResult result IsAnAnswer (λ cut. cut ≡ Cut.Memory) }
 
     ensures same { SameFiles (F.state folder.old) (F.state folder.new) }

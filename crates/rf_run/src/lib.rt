@@ -10,6 +10,7 @@ mod ends;
 mod evaluate;
 mod files;
 mod generate;
+mod grow;
 mod job;
 mod leave;
 mod lines;

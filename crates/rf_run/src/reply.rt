@@ -15,8 +15,8 @@ use rf_satisfy::judge;
 use rf_text::{Text, push_number};
 use std::alloc::{AllocError, Global};
 
-// Appends numbers, each after a space, or, where memory runs out, a part of them.
-fn push_spaced(alloc: Global, out: &mut Text, numbers: &[u64]) -> Result<(), AllocError>
+/// Appends numbers, each after a space, or, where memory runs out, a part of them.
+pub fn push_spaced(alloc: Global, out: &mut Text, numbers: &[u64]) -> Result<(), AllocError>
     ensures { OnOk result (out.new ≡ out.old ++ spaced numbers.now) }
 {
     for number in numbers {

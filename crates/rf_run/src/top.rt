@@ -5,6 +5,7 @@ ghost use Rattle.rf_problem.specs.declared.problem.Problem.{Problem};
 ghost use Rattle.rf_words.specs.Meaning.{IsCommand};
 ghost use Rattle.rf_words.specs.declared.request.Command.{Command};
 ghost use Rattle.rf_run.specs.Commands.{IsBuilt};
+ghost use Rattle.rf_run.specs.Answers.{HasEnough};
 ghost use Rattle.rf_run.specs.Ends.{AFileFailed, CanAnswer, Ends, HasEnd, Input, IsStoredInput, IsSubject, MissesFile, WasRead};
 ghost use Rattle.rf_run.specs.Leaves.{CameTo, Complained, HasAnswered, IsRightEnd, NoWriteFailed, Wrote};
 ghost use Rattle.rf_run.specs.declared.end.End.{End};
@@ -43,6 +44,12 @@ pub fn run<F: Folder, O: Sink, E: Sink>(
         → IsStoredInput (F.state folder.old) c i
         → IsSubject c i p
         → Wrote (IsRightEnd c p i.second) (O.state out.old) (O.state out.new) result }
+
+    // Where a scope bounds all nodes, a search with enough of a budget ends with a graph or a refutation.
+    ensures enough { (c : Command) (i : Input) (p : Problem) → IsBuilt c → IsCommand words.now c
+        → IsStoredInput (F.state folder.old) c i
+        → IsSubject c i p
+        → HasEnough c p → result ≡ Status.Unfinished → ⊥ }
 
     // The causes of faults, and what a missing file gets.
     ensures read { result ≡ Status.ReadFault

@@ -12,3 +12,4 @@ pub mod SideLemmas
 pub mod SizeLemmas
 pub mod OnceLemmas
 pub mod CourseLaws
+pub mod DepthLemmas

@@ -10,6 +10,7 @@ use Rattle.rf_tree.specs.Lines.{CanStand}
 use Rattle.rf_tree.specs.Outcomes.{IsRightOutcome}
 use Rattle.rf_tree.specs.declared.line.Line.{Line}
 use Rattle.rf_tree.specs.declared.outcome.Outcome.{Outcome}
+use Rattle.rf_depth.specs.Outcomes.{IsEnough, IsFinished, IsShallow}
 use Rattle.rf_search.specs.Course.{IsCourse}
 use Rattle.rf_search.specs.Least.{IsLeast}
 use Rattle.rf_search.specs.Outcome.{IsOutcome}
@@ -50,3 +51,11 @@ OutcomeIsUnique =
 -- an outcome is right: a graph satisfies, lines that refute are valid, and unfinished ones are open, with as many decisions as the budget
 abbrev pub OutcomeIsRight : Type 0
 OutcomeIsRight = (p : Problem) (seed budget : ℕ) (outcome : Outcome) → IsOutcome p seed budget outcome → IsRightOutcome p budget outcome
+
+-- where a scope bounds all nodes, no way of the lines of an outcome holds more decisions than the depth of the problem
+abbrev pub OutcomeIsShallow : Type 0
+OutcomeIsShallow = (p : Problem) (seed budget : ℕ) (outcome : Outcome) → IsOutcome p seed budget outcome → IsShallow p outcome
+
+-- and with a budget of two to the power of that depth it is a graph or a refutation
+abbrev pub EnoughIsFinished : Type 0
+EnoughIsFinished = (p : Problem) (seed budget : ℕ) (outcome : Outcome) → IsOutcome p seed budget outcome → IsEnough p budget → IsFinished outcome

@@ -3,6 +3,7 @@
 ghost use Rattle.std.specs.Prelude.{◌≡◌, ◌≤◌, IfOk};
 ghost use Rattle.rf_bounds.specs.declared.TheConstants.{MOST_DECISIONS};
 ghost use Rattle.rf_tree.specs.Outcomes.{IsRightOutcome};
+ghost use Rattle.rf_depth.specs.Outcomes.{IsEnough, IsFinished, IsShallow};
 ghost use Rattle.rf_search.specs.Outcome.{IsOutcome};
 
 use crate::search;
@@ -11,7 +12,9 @@ use rf_tree::{Outcome, Solver};
 use rf_vstate::Versioned;
 use std::alloc::{AllocError, Global};
 
-/// Searches for a graph of a problem by a seed, with at most `budget` decisions.
+/// Searches for a graph of a problem by a seed, with at most `budget` decisions. Where a scope bounds all nodes, no way of
+/// the tree of a refutation, or of an unfinished one, holds more decisions than the depth of the problem (`depth`), and
+/// with a budget of two to the power of it the search ends with a graph or a refutation.
 pub fn generate(
     alloc: Global,
     problem: &Problem,
@@ -22,6 +25,8 @@ pub fn generate(
     requires most { budget ≤ MOST_DECISIONS }
     ensures outcome { IfOk result (IsOutcome problem.now seed budget) }
     ensures right { IfOk result (IsRightOutcome problem.now budget) }
+    ensures shallow { IfOk result (IsShallow problem.now) }
+    ensures enough { IsEnough problem.now budget → IfOk result IsFinished }
 {
     let mut state = Versioned::root(alloc, problem)?;
     search(alloc, &mut state, seed, budget)

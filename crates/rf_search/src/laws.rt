@@ -1,6 +1,6 @@
 //! What holds of rules that are applied one after another and of searches, each law as the contract of a function that does nothing.
 
-ghost use Rattle.rf_search.specs.Laws.{CourseIsUnique, CourseStands, CoursesArePrefixes, FamiliesAreInOrder, OutcomeIsRight, OutcomeIsUnique, RuleNarrows};
+ghost use Rattle.rf_search.specs.Laws.{CourseIsUnique, CourseStands, CoursesArePrefixes, EnoughIsFinished, FamiliesAreInOrder, OutcomeIsRight, OutcomeIsShallow, OutcomeIsUnique, RuleNarrows};
 
 use rf_final::final_law;
 
@@ -33,3 +33,10 @@ pub fn right_law()
 {
     final_law();
 }
+
+/// Where a scope bounds all nodes, no way of the lines of an outcome holds more decisions than the depth of the problem,
+/// and with a budget of two to the power of the depth the outcome is a graph or a refutation.
+pub fn bound_law()
+    ensures shallow { OutcomeIsShallow }
+    ensures enough { EnoughIsFinished }
+{}

@@ -13,7 +13,8 @@ mod untried;
 
 pub use changed::change_of;
 pub use generating::{Search, generate};
-pub use laws::{course_law, families_law, narrowing_law, outcome_law, right_law};
+pub use laws::{bound_law, course_law, families_law, narrowing_law, outcome_law, right_law};
 pub use pending::{Pending, least, touch};
+pub use rf_depth::depth;
 pub use searching::search;
 pub use settling::settle;

@@ -2,6 +2,8 @@
 #![tactic(auto)]
 
 #[cfg(test)]
+mod bounding;
+#[cfg(test)]
 mod noted;
 #[cfg(test)]
 mod searching;

@@ -6,6 +6,8 @@ mod documents;
 #[cfg(test)]
 mod files;
 #[cfg(test)]
+mod grown;
+#[cfg(test)]
 mod ranks;
 #[cfg(test)]
 mod reach;

@@ -1,6 +1,7 @@
 use Rattle.std.proofs.Common.{◌≡◌, sym, subst}
 use Rattle.rf_run.specs.Ends.{HasEnd}
 use Rattle.rf_run.specs.Leaves.{IsRightEnd}
+use Rattle.rf_run.proofs.Enough.{not_unfinished}
 use Rattle.rf_run.proofs.Left.{answered_as, came_to, complained_as, wrote_as}
 use Rattle.rf_run.proofs.top.run.Goals as goal
 
@@ -21,6 +22,13 @@ returns-in-Ok-clause-right g c = λ d i p built is stored subject.
     wrote_as (λ e. e ≡ c.in-Ok.end) (IsRightEnd d p i.second)
     (λ e same. subst (IsRightEnd d p i.second) (sym same) (c.in-Ok.ensures.right d i p built is stored subject))
     (g.O.Sink.state c.args.out.now) (g.O.Sink.state c.leave.new.out) c.leave.result c.leave.ensures.wrote
+
+pub returns-in-Ok-clause-enough : goal.returns-in-Ok-clause-enough
+returns-in-Ok-clause-enough g c = λ d i p built is stored subject enough.
+    not_unfinished d p i.second (g.O.Sink.state c.args.out.now) (g.O.Sink.state c.leave.new.out) c.leave.result enough
+    (wrote_as (λ e. e ≡ c.in-Ok.end) (IsRightEnd d p i.second)
+    (λ e same. subst (IsRightEnd d p i.second) (sym same) (c.in-Ok.ensures.right d i p built is stored subject))
+    (g.O.Sink.state c.args.out.now) (g.O.Sink.state c.leave.new.out) c.leave.result c.leave.ensures.wrote)
 
 pub returns-in-Ok-clause-complete : goal.returns-in-Ok-clause-complete
 returns-in-Ok-clause-complete g c = λ i end ends was unfailed.

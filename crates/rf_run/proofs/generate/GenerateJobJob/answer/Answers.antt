@@ -1,4 +1,3 @@
-use Rattle.std.proofs.Common.{sym}
 use Rattle.rf_run.proofs.Generated.{generation_decides, generation_right, outcome_fits}
 use Rattle.rf_run.proofs.generate.GenerateJobJob.answer.Goals as goal
 
@@ -12,5 +11,5 @@ returns-in-Ok-reply_to-clause-decides c =
 
 pub returns-in-Ok-reply_to-clause-right : goal.returns-in-Ok-reply_to-clause-right
 returns-in-Ok-reply_to-clause-right c =
-    generation_right c.args.problem.now c.args.self.now.budget c.in-Ok.outcome _ c.in-Ok.ensures.right c.in-Ok-reply_to.ensures.document
-    c.in-Ok-reply_to.ensures.sign
+    generation_right c.args.problem.now c.args.self.now.budget c.in-Ok.outcome _ c.in-Ok.ensures.right c.in-Ok.ensures.shallow
+    c.in-Ok.ensures.enough c.in-Ok-reply_to.ensures.document c.in-Ok-reply_to.ensures.sign

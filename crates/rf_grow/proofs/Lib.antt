@@ -1,0 +1,5 @@
+mod Rows
+mod Names
+mod Named
+mod Made
+pub mod Once
