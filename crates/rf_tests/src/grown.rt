@@ -56,7 +56,9 @@ fn is_read_as_grown(rt: &impl Abort, alloc: Global, n: u32)
     let Ok(text) = text_of(alloc, n) else {
         panic!(rt; "memory suffices");
     };
-    let Ok(read) = read_source(alloc, text.as_str().as_bytes()) else {
+    let bytes = text.as_str().as_bytes();
+    assert!(rt; bytes.len() < 65_536);
+    let Ok(read) = read_source(alloc, bytes) else {
         panic!(rt; "the problem is read");
     };
     let Ok(made) = grown(alloc, n) else {
