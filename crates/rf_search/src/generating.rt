@@ -7,9 +7,9 @@ ghost use Rattle.rf_depth.specs.Outcomes.{IsEnough, IsFinished, IsShallow};
 ghost use Rattle.rf_search.specs.Outcome.{IsOutcome};
 
 use crate::search;
+use rf_mirror::Mirrored;
 use rf_problem::Problem;
 use rf_tree::{Outcome, Solver};
-use rf_vstate::Versioned;
 use std::alloc::{AllocError, Global};
 
 /// Searches for a graph of a problem by a seed, with at most `budget` decisions. Where a scope bounds all nodes, no way of
@@ -28,7 +28,7 @@ pub fn generate(
     ensures shallow { IfOk result (IsShallow problem.now) }
     ensures enough { IsEnough problem.now budget → IfOk result IsFinished }
 {
-    let mut state = Versioned::root(alloc, problem)?;
+    let mut state = Mirrored::root(alloc, problem)?;
     search(alloc, &mut state, seed, budget)
 }
 
