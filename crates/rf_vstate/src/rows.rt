@@ -9,11 +9,11 @@ ghost use Rattle.rf_vstate.specs.Rows.{IsSound, with_fact, with_one_more};
 ghost use Rattle.rf_vstate.specs.Words.{fact_key, object_key};
 
 use crate::keys::{fact_key, number_key, object_key};
-use crate::values::{fact_value, number_value, object_in, object_value, truth_in};
+use crate::values::{count_in, fact_value, number_value, object_in, object_value, truth_in};
 use rf_problem::Problem;
 use rf_state::Object;
 use rf_store::{Key, Store, Value};
-use rf_values::Truth;
+use rf_values::{Count, Truth};
 use std::alloc::AllocError;
 
 fn words_at(store: &Store, key: &Key) -> Value
@@ -34,6 +34,13 @@ pub fn object_at(store: &Store, o: u64) -> Object
     ensures { result ≡ object_in (words_at store.now.current (object_key o)) }
 {
     object_in(&words_at(store, &object_key(o)))
+}
+
+/// The count of the object of a number.
+pub fn count_at(store: &Store, o: u64) -> Count
+    ensures { result ≡ (object_in (words_at store.now.current (object_key o))).count }
+{
+    count_in(&words_at(store, &object_key(o)))
 }
 
 /// What was added of an edge.

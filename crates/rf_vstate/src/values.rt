@@ -124,15 +124,22 @@ pub fn object_value(object: Object, end: u32) -> Value
     ]
 }
 
+/// The count of an object, whose classes aren't read.
+pub fn count_in(value: &Value) -> Count
+    ensures { result ≡ (object_in value.now).count }
+{
+    Count {
+        lo: value[1],
+        hi: end_in(value[2]),
+    }
+}
+
 pub fn object_in(value: &Value) -> Object
     ensures { result ≡ object_in value.now }
 {
     Object {
         origin: value[0],
-        count: Count {
-            lo: value[1],
-            hi: end_in(value[2]),
-        },
+        count: count_in(value),
         candidates: classes_in([value[3], value[4], value[5], value[6]]),
     }
 }

@@ -107,7 +107,7 @@ impl Facts for Versioned<'_> {
     }
 
     fn count(&self, o: u64) -> Count {
-        self.object(o).count
+        rows::count_at(&self.store, o)
     }
 
     fn candidates(&self, o: u64) -> ClassSet {
