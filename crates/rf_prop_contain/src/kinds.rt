@@ -6,6 +6,7 @@ ghost use Rattle.rf_rules.specs.declared.rule.Rule.TheVariants.{NoContainer};
 ghost use Rattle.rf_prop_contain.specs.Kinds.{first_in_row};
 ghost use Rattle.rf_prop_contain.specs.Pending.{first_excluded};
 
+use crate::acyclic::least_acyclic;
 use rf_pending::{EdgeRows, Marks, Rows};
 use rf_rules::{Rule, containment};
 use rf_state::Facts;
@@ -87,7 +88,7 @@ impl<F: Facts> EdgeRows for Edges<'_, F> {
                 Some(b) => Some(Rule::ContainCount(r, a, b)),
                 None => None,
             },
-            EdgeKind::Acyclic => match containment::acyclic_row(alloc, self.view, r, a)? {
+            EdgeKind::Acyclic => match least_acyclic(alloc, self.view, r, a)? {
                 Some(b) => Some(Rule::Acyclic(r, a, b)),
                 None => None,
             },

@@ -1,6 +1,7 @@
 //! The propagator of containment: the least of its rules that fires.
 #![tactic(auto)]
 
+mod acyclic;
 mod concerns;
 mod kinds;
 mod pending;
