@@ -1,13 +1,16 @@
 -- Rows that are written block by block, and made one after another.
-use Rattle.std.proofs.Common.{◌≡◌, ◌≢◌, ◌∙◌, ℕ, ◌+◌, ◌*◌, ◌/◌, ◌%◌, ◌<◌, ◌≤◌, Bool, true, ◌==◌, ◌↔◌, List, [], ◌∷◌, get_or, refl, sym, ap, subst, inl, inr, arith}
+use Rattle.std.proofs.Common.{◌≡◌, ◌≢◌, ◌∙◌, ℕ, ◌+◌, ◌*◌, ◌/◌, ◌%◌, ◌<◌, ◌≤◌, Bool, true, false, ◌==◌, ◌&&◌, ◌↔◌, nat_lt, length, List, [], ◌∷◌, get_or, refl, sym, ap, subst, inl, inr, arith}
 use Rattle.std.specs.Prelude.{slice_index, unwrap_or}
 use Rattle.std.specs.Int.{bit_at}
-use Rattle.std.proofs.lemmas.Bool.{cases_eq}
+use Rattle.std.proofs.lemmas.Bool.{cases_eq, cases_lt, le-ltb, lt-ltb}
+use Rattle.std.proofs.lemmas.List.{get_or_past}
 use Rattle.rf_finite.specs.Walks.{IsReachable, walk_below}
 use Rattle.rf_finite.proofs.Walks.{IsReachable-from_walk_below, walk_below-from_IsWalk}
+use Rattle.rf_store.specs.Contents.{Contents}
 use Rattle.rf_store.specs.Entries.{Entry, value_at}
 use Rattle.rf_incr_closure.specs.Entries.{BeginsWith, HasRow, LeavesOtherRows, LeavesOtherTags, is_marked, row_key, words_at}
-use Rattle.rf_incr_closure.specs.Words.{Writes, block_words}
+use Rattle.rf_incr_closure.specs.Words.{AreWritten, AreWrittenRows, IsWrittenRow, block_words}
+use Rattle.rf_incr_closure.specs.Writes.{Writes, mark_at}
 use Rattle.rf_incr_closure.proofs.Bits.{bit_in}
 
 -- ---- keys
@@ -39,44 +42,86 @@ HasRow-other old new tag n c a row left ne held b l =
 pub LeavesOtherTags-row : (old new : List Entry) (tag n a : ℕ) → LeavesOtherRows old new tag n a → LeavesOtherTags old new tag
 LeavesOtherTags-row old new tag n a left k apart = left k (λ of. apart (begins tag a of.0 k of.2))
 
+-- ---- marks that are written
+
+-- written marks are read
+pub written-marks : (entries : List Entry) (tag n a : ℕ) (marked : ℕ → Bool) → AreWritten entries tag n a marked → HasRow entries tag n a marked
+written-marks entries tag n a marked held b l =
+    ap (λ ws. bit_at (slice_index ws (b % 448 / 64)) (b % 64) == 1) (held (b / 448) (omega (arith, l))) ∙ bit_in marked b
+
+pub written-row : (entries : List Entry) (tag n a : ℕ) (row : ℕ → Bool) → IsWrittenRow entries tag n a row → HasRow entries tag n a row
+written-row entries tag n a row held b l =
+    written-marks entries tag n a (λ c. nat_lt c n && row c) held b l ∙ ap (λ t. t && row b) (lt-ltb b n l)
+
+-- a list marks no number that isn't a place of it
+pub marks-below : (marks : List Bool) (n : ℕ) (row : ℕ → Bool) → length marks ≡ n → ((b : ℕ) → b < n → mark_at marks b ≡ row b)
+    → mark_at marks ≡ (λ b. nat_lt b n && row b)
+marks-below marks n row size is = λ i b. point b i
+  where
+    point : (b : ℕ) → mark_at marks b ≡ (nat_lt b n && row b)
+    point b = elim (cases_lt b n) [
+      | inl l ↦ is b l ∙ sym (ap (λ t. t && row b) (lt-ltb b n l))
+      | inr m ↦ get_or_past marks b false (omega (arith, m, size)) ∙ sym (ap (λ t. t && row b) (le-ltb b n m))
+    ]
+
+-- the marks of a list are written exactly where the row is
+pub written-from_marks : (entries : List Entry) (tag n m a : ℕ) (marked row : ℕ → Bool) → m ≡ n → marked ≡ row
+    → AreWritten entries tag m a marked → AreWritten entries tag n a row
+written-from_marks entries tag n m a marked row size same held block l =
+    held block (omega (arith, size, l)) ∙ ap (λ p. block_words p (block * 448)) same
+
+-- a row of another vertex stays as it is written
+pub written-other : (old new : List Entry) (tag n c a : ℕ) (marked : ℕ → Bool)
+    → LeavesOtherRows old new tag n c → (a ≡ c → ⊥) → AreWritten old tag n a marked → AreWritten new tag n a marked
+written-other old new tag n c a marked left ne held block l =
+    ap (λ v. unwrap_or v (0 ∷ 0 ∷ 0 ∷ 0 ∷ 0 ∷ 0 ∷ 0 ∷ [])) (left (row_key tag a block) (λ of. ne (from-same tag a block c of.0 of.2))) ∙ held block l
+
 -- ---- a row that is written block by block
 
-pub record IsWritten (old new : List Entry) (tag n a : ℕ) (marked : ℕ → Bool) (blocks : ℕ) : Type 0 where
-  pub row : HasRow new tag (blocks * 448) a marked
-  pub others : LeavesOtherRows old new tag n a
+pub record IsWriting (old new : Contents) (tag n a : ℕ) (marked : ℕ → Bool) (blocks : ℕ) : Type 0 where
+  pub each : (d : ℕ) → d < blocks → words_at new.current (row_key tag a d) ≡ block_words marked (d * 448)
+  pub others : LeavesOtherRows old.current new.current tag n a
+  pub saved : new.saved ≡ old.saved
+  pub unchanged : AreWritten old.current tag n a marked → new ≡ old
 
-pub IsWritten-none : (old : List Entry) (tag n a : ℕ) (marked : ℕ → Bool) → IsWritten old old tag n a marked 0
-IsWritten-none old tag n a marked = record {
-  row = λ b l. absurd (omega (arith, l));
+pub IsWriting-none : (old : Contents) (tag n a : ℕ) (marked : ℕ → Bool) → IsWriting old old tag n a marked 0
+IsWriting-none old tag n a marked = record {
+  each = λ b l. absurd (omega (arith, l));
   others = λ k apart. refl;
+  saved = refl;
+  unchanged = λ h. refl;
 }
 
--- another block
-pub others-more : (old now new : List Entry) (tag n a block : ℕ) (key : List ℕ) → key ≡ row_key tag a block → block * 448 < n
-    → ((k : List ℕ) → k ≢ key → value_at new k ≡ value_at now k)
-    → LeavesOtherRows old now tag n a → LeavesOtherRows old new tag n a
-others-more old now new tag n a block key is l other held k apart = other k (λ e. apart (block, l, e ∙ is)) ∙ held k apart
+-- one block more
+module _ (old now new : Contents) (tag n a : ℕ) (marked : ℕ → Bool) (block : ℕ) (key words : List ℕ)
+    (is : key ≡ row_key tag a block) (l : block * 448 < n) (held : IsWriting old now tag n a marked block)
+    (other : (k : List ℕ) → k ≢ key → value_at new.current k ≡ value_at now.current k) where
+  pub others-more : LeavesOtherRows old.current new.current tag n a
+  others-more k apart = other k (λ e. apart (block, l, e ∙ is)) ∙ held.others k apart
 
-pub IsWritten-more : (old now new : List Entry) (tag n a : ℕ) (marked : ℕ → Bool) (block : ℕ) (key words : List ℕ)
-    → key ≡ row_key tag a block → words ≡ block_words marked (block * 448) → block * 448 < n
-    → Writes now new key words → IsWritten old now tag n a marked block → IsWritten old new tag n a marked (block + 1)
-IsWritten-more old now new tag n a marked block key words is spelled l put held = record {
-  row = λ b m. elim (cases_eq (b / 448) block) [
-    | inl e ↦ (
-        let stand : words_at new (row_key tag a (b / 448)) ≡ block_words marked (b / 448 * 448)
-        = ap (λ d. words_at new (row_key tag a d)) e ∙ ap (words_at new) (sym is) ∙ put.this_key ∙ spelled ∙ ap (λ d. block_words marked (d * 448)) (sym e) in
-        ap (λ ws. bit_at (slice_index ws (b % 448 / 64)) (b % 64) == 1) stand ∙ bit_in marked b)
-    | inr ne ↦
-        mark-same now new tag a b (put.other_keys (row_key tag a (b / 448)) (λ e. ne (block-same tag a (b / 448) block (e ∙ is))))
-        ∙ held.row b (omega (arith, m, ne))
-  ];
-  others = others-more old now new tag n a block key is l put.other_keys held.others;
-}
+  module _ (spelled : words ≡ block_words marked (block * 448)) (same : words_at now.current key ≡ words → new ≡ now) where
+    pub unchanged-more : AreWritten old.current tag n a marked → new ≡ old
+    unchanged-more whole =
+        let before = held.unchanged whole in
+        same (ap (λ (s : Contents). words_at s.current key) before ∙ ap (words_at old.current) is ∙ whole block l ∙ sym spelled) ∙ before
+
+    pub IsWriting-more : Writes now.current new.current key words → new.saved ≡ now.saved → IsWriting old new tag n a marked (block + 1)
+    IsWriting-more put kept = record {
+      each = λ d m. elim (cases_eq d block) [
+        | inl e ↦ ap (λ c. words_at new.current (row_key tag a c)) e ∙ ap (words_at new.current) (sym is) ∙ put.this_key ∙ spelled
+            ∙ ap (λ c. block_words marked (c * 448)) (sym e)
+        | inr ne ↦ ap (λ v. unwrap_or v (0 ∷ 0 ∷ 0 ∷ 0 ∷ 0 ∷ 0 ∷ 0 ∷ [])) (other (row_key tag a d) (λ e. ne (block-same tag a d block (e ∙ is))))
+            ∙ held.each d (omega (arith, m, ne))
+      ];
+      others = others-more;
+      saved = kept ∙ held.saved;
+      unchanged = unchanged-more;
+    }
 
 -- all blocks
-pub IsWritten-all : (old new : List Entry) (tag n a : ℕ) (marked : ℕ → Bool) (blocks : ℕ) → n ≤ blocks * 448
-    → IsWritten old new tag n a marked blocks → HasRow new tag n a marked
-IsWritten-all old new tag n a marked blocks all held b l = held.row b (omega (arith, all, l))
+pub IsWriting-all : (old new : Contents) (tag n a : ℕ) (marked : ℕ → Bool) (blocks : ℕ) → n ≤ blocks * 448
+    → IsWriting old new tag n a marked blocks → AreWritten new.current tag n a marked
+IsWriting-all old new tag n a marked blocks all held block l = held.each block (omega (arith, all, l))
 
 -- ---- a row marks what walks lead to
 
@@ -90,34 +135,41 @@ row-walks entries tag edge through n a held b l = (
   λ w. held b l ∙ walk_below-from_IsWalk edge through n a w.0 b w.1,
 )
 
-pub marks-walks : (entries : List Entry) (tag : ℕ) (edge : ℕ → ℕ → Bool) (through : ℕ → Bool) (n a m : ℕ) (marked : ℕ → Bool)
-    → m ≡ n → ((b : ℕ) → b < n → marked b ≡ walk_below edge through n a b)
-    → HasRow entries tag m a marked → MarksWalks entries tag edge through n a
-marks-walks entries tag edge through n a m marked e is held =
-    row-walks entries tag edge through n a (λ b l. held b (omega (arith, e, l)) ∙ is b l)
-
 -- ---- rows that are made one after another
 
-pub record IsMade (old new : List Entry) (tag n : ℕ) (rows : ℕ → ℕ → Bool) (end : ℕ) : Type 0 where
-  pub each : (a : ℕ) → a < end → HasRow new tag n a (rows a)
-  pub others : LeavesOtherTags old new tag
+pub record IsMaking (old new : Contents) (tag n : ℕ) (rows : ℕ → ℕ → Bool) (end : ℕ) : Type 0 where
+  pub each : (a : ℕ) → a < end → IsWrittenRow new.current tag n a (rows a)
+  pub others : LeavesOtherTags old.current new.current tag
+  pub saved : new.saved ≡ old.saved
+  pub unchanged : AreWrittenRows old.current tag n rows → new ≡ old
 
-pub IsMade-none : (old : List Entry) (tag n : ℕ) (rows : ℕ → ℕ → Bool) → IsMade old old tag n rows 0
-IsMade-none old tag n rows = record {
+pub IsMaking-none : (old : Contents) (tag n : ℕ) (rows : ℕ → ℕ → Bool) → IsMaking old old tag n rows 0
+IsMaking-none old tag n rows = record {
   each = λ a l. absurd (omega (arith, l));
   others = λ k apart. refl;
+  saved = refl;
+  unchanged = λ h. refl;
 }
 
-pub made-others : (old now new : List Entry) (tag n : ℕ) (rows : ℕ → ℕ → Bool) (a : ℕ) → LeavesOtherRows now new tag n a
-    → IsMade old now tag n rows a → LeavesOtherTags old new tag
-made-others old now new tag n rows a left held k apart = LeavesOtherTags-row now new tag n a left k apart ∙ held.others k apart
+-- one row more
+module _ (old now new : Contents) (tag n : ℕ) (rows : ℕ → ℕ → Bool) (a : ℕ) (within : a < n)
+    (held : IsMaking old now tag n rows a) (left : LeavesOtherRows now.current new.current tag n a) where
+  pub making-others : LeavesOtherTags old.current new.current tag
+  making-others k apart = LeavesOtherTags-row now.current new.current tag n a left k apart ∙ held.others k apart
 
-pub IsMade-more : (old now new : List Entry) (tag n : ℕ) (rows : ℕ → ℕ → Bool) (a : ℕ) → LeavesOtherRows now new tag n a
-    → HasRow new tag n a (rows a) → IsMade old now tag n rows a → IsMade old new tag n rows (a + 1)
-IsMade-more old now new tag n rows a left row held = record {
-  each = λ c l. elim (cases_eq c a) [
-    | inl e ↦ subst (λ d. HasRow new tag n d (rows d)) (sym e) row
-    | inr ne ↦ HasRow-other now new tag n a c (rows c) left ne (held.each c (omega (arith, l, ne)))
-  ];
-  others = made-others old now new tag n rows a left held;
-}
+  module _ (same : IsWrittenRow now.current tag n a (rows a) → new ≡ now) where
+    pub making-unchanged : AreWrittenRows old.current tag n rows → new ≡ old
+    making-unchanged whole =
+        let before = held.unchanged whole in
+        same (subst (λ (s : Contents). IsWrittenRow s.current tag n a (rows a)) (sym before) (whole a within)) ∙ before
+
+    pub IsMaking-more : IsWrittenRow new.current tag n a (rows a) → new.saved ≡ now.saved → IsMaking old new tag n rows (a + 1)
+    IsMaking-more row kept = record {
+      each = λ c l. elim (cases_eq c a) [
+        | inl e ↦ subst (λ d. IsWrittenRow new.current tag n d (rows d)) (sym e) row
+        | inr ne ↦ written-other now.current new.current tag n a c (λ b. nat_lt b n && rows c b) left ne (held.each c (omega (arith, l, ne)))
+      ];
+      others = making-others;
+      saved = kept ∙ held.saved;
+      unchanged = making-unchanged;
+    }

@@ -18,7 +18,8 @@ words_at entries k = unwrap_or (value_at entries k) (0 ∷ 0 ∷ 0 ∷ 0 ∷ 0 �
 -- whether the map has at the tag that b can be reached from a: bit b % 64 of the word of b in its block
 abbrev pub is_marked : List Entry → ℕ → ℕ → ℕ → Bool
 is_marked entries tag a b =
-    bit_at (slice_index (words_at entries (row_key tag a (b / block_size))) (b % block_size / 64)) (b % 64) == 1
+    bit_at (slice_index (words_at entries (row_key tag a (b / block_size))) (b % block_size / 64)) (b % 64)
+    == 1
 
 -- the map has at the tag this row of vertex a, said for the vertices below n
 abbrev pub HasRow : List Entry → ℕ → ℕ → ℕ → (ℕ → Bool) → Type 0
@@ -35,7 +36,8 @@ BeginsWith tag (word ∷ words) = word ≡ tag
 
 -- no entry but those of the tag differs
 abbrev pub LeavesOtherTags : List Entry → List Entry → ℕ → Type 0
-LeavesOtherTags old new tag = (k : List ℕ) → (BeginsWith tag k → ⊥) → value_at new k ≡ value_at old k
+LeavesOtherTags old new tag =
+    (k : List ℕ) → (BeginsWith tag k → ⊥) → value_at new k ≡ value_at old k
 
 -- the key is that of a block in which the row of vertex a has vertices below n
 abbrev pub IsKeyOfRow : ℕ → ℕ → ℕ → List ℕ → Type 0
@@ -43,4 +45,5 @@ IsKeyOfRow tag n a k = (block : ℕ) × (block * block_size < n) × (k ≡ row_k
 
 -- no entry but those of the row of vertex a differs
 abbrev pub LeavesOtherRows : List Entry → List Entry → ℕ → ℕ → ℕ → Type 0
-LeavesOtherRows old new tag n a = (k : List ℕ) → (IsKeyOfRow tag n a k → ⊥) → value_at new k ≡ value_at old k
+LeavesOtherRows old new tag n a =
+    (k : List ℕ) → (IsKeyOfRow tag n a k → ⊥) → value_at new k ≡ value_at old k

@@ -21,10 +21,12 @@ RowsAreOfTheirTag =
 abbrev pub OtherRowsStay : Type 0
 OtherRowsStay =
     (old new : List Entry) (tag n c a : ℕ) (row : ℕ → Bool)
-    → LeavesOtherRows old new tag n c → (a ≡ c → ⊥) → HasRow old tag n a row → HasRow new tag n a row
+    → LeavesOtherRows old new tag n c → (a ≡ c → ⊥)
+    → HasRow old tag n a row → HasRow new tag n a row
 
 -- what leaves the entries of other tags as they were leaves the rows of other tags
 abbrev pub OtherTagsKeepRows : Type 0
 OtherTagsKeepRows =
     (old new : List Entry) (tag other n : ℕ) (rows : ℕ → ℕ → Bool)
-    → LeavesOtherTags old new tag → (other ≡ tag → ⊥) → HasRows old other n rows → HasRows new other n rows
+    → LeavesOtherTags old new tag → (other ≡ tag → ⊥)
+    → HasRows old other n rows → HasRows new other n rows

@@ -1,8 +1,7 @@
--- Private: no public contract cites this.
--- The words that a block of a row is written as.
-use Rattle.std.specs.Prelude.{◌≡◌, ◌≢◌, ℕ, zero, suc, ◌+◌, ◌*◌, Bool, if◌then◌else◌, List, [], ◌∷◌, slice_index_or, false}
-use Rattle.rf_store.specs.Entries.{Entry, value_at}
-use Rattle.rf_incr_closure.specs.Entries.{words_at}
+-- The words that a row is written as.
+use Rattle.std.specs.Prelude.{◌≡◌, ℕ, zero, suc, ◌+◌, ◌*◌, ◌<◌, ◌&&◌, nat_lt, Bool, if◌then◌else◌, List, [], ◌∷◌}
+use Rattle.rf_store.specs.Entries.{Entry}
+use Rattle.rf_incr_closure.specs.Entries.{block_size, row_key, words_at}
 
 -- the number whose lowest n bits are 1 where vertices from `first` on are marked
 abbrev pub word_of : (ℕ → Bool) → ℕ → ℕ → ℕ
@@ -21,11 +20,16 @@ block_words marked first =
     ∷ word_of marked (first + 384) 64
     ∷ []
 
--- whether a vertex is marked
-abbrev pub mark_at : List Bool → ℕ → Bool
-mark_at marks i = slice_index_or marks i false
+-- these marks are written in the map as the row of vertex a, in the blocks that have vertices below n
+abbrev pub AreWritten : List Entry → ℕ → ℕ → ℕ → (ℕ → Bool) → Type 0
+AreWritten entries tag n a marked =
+    (block : ℕ) → block * block_size < n
+    → words_at entries (row_key tag a block) ≡ block_words marked (block * block_size)
 
--- the new map has these words at the key, and at every other key what the old map has
-pub record Writes (old new : List Entry) (key words : List ℕ) : Type 0 where
-  pub this_key : words_at new key ≡ words
-  pub other_keys : (k : List ℕ) → k ≢ key → value_at new k ≡ value_at old k
+-- the row of vertex a is written in the map, and no number from n on is marked in its blocks
+abbrev pub IsWrittenRow : List Entry → ℕ → ℕ → ℕ → (ℕ → Bool) → Type 0
+IsWrittenRow entries tag n a row = AreWritten entries tag n a (λ b. nat_lt b n && row b)
+
+-- the rows of all vertices below n are written so
+abbrev pub AreWrittenRows : List Entry → ℕ → ℕ → (ℕ → ℕ → Bool) → Type 0
+AreWrittenRows entries tag n rows = (a : ℕ) → a < n → IsWrittenRow entries tag n a (rows a)

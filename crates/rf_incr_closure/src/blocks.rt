@@ -4,7 +4,8 @@ ghost use Rattle.rf_store.specs.Entries.{value_at};
 ghost use Rattle.std.specs.Prelude.{◌≡◌, ◌≢◌, ◌==◌, ℕ, ◌+◌, ◌*◌, ◌/◌, ◌%◌, ◌^◌, ◌<◌, ◌≤◌, if◌then◌else◌, List, length, slice_index, OnOk};
 ghost use Rattle.std.specs.Int.{bit_at};
 ghost use Rattle.rf_incr_closure.specs.Entries.{block_size, row_key, words_at};
-ghost use Rattle.rf_incr_closure.specs.Words.{Writes, block_words, mark_at, word_of};
+ghost use Rattle.rf_incr_closure.specs.Words.{block_words, word_of};
+ghost use Rattle.rf_incr_closure.specs.Writes.{Writes, mark_at};
 
 use rf_store::{Key, Store, Value};
 use std::alloc::AllocError;
@@ -56,11 +57,12 @@ fn word_of(marks: &[bool], first: usize) -> u64
     word
 }
 
-/// The marks of a block's vertices, from `first` on, as a value.
-pub(crate) fn block_value(marks: &[bool], first: usize) -> Value
-    requires { first < length marks.now }
-    ensures { result ≡ block_words (mark_at marks.now) first }
+/// The marks of a block's vertices as a value.
+pub(crate) fn block_value(marks: &[bool], block: u64) -> Value
+    requires { block * block_size < length marks.now }
+    ensures { result ≡ block_words (mark_at marks.now) (block * block_size) }
 {
+    let first = (block * BLOCK_SIZE) as usize;
     [
         word_of(marks, first),
         word_of(marks, first + 64),
@@ -75,7 +77,8 @@ pub(crate) fn block_value(marks: &[bool], first: usize) -> Value
 /// Writes words at a key. Where they stand there already nothing is put, so that takes no room.
 pub(crate) fn write(store: &mut Store, key: Key, words: Value) -> Result<(), AllocError>
     ensures words { OnOk result (Writes store.old.current store.new.current key words) }
-    ensures others { (k : List ℕ) → k ≢ key → value_at store.new.current k ≡ value_at store.old.current k }
+    ensures others { (k : List ℕ) → k ≢ key
+        → value_at store.new.current k ≡ value_at store.old.current k }
     ensures same { words_at store.old.current key ≡ words → store.new ≡ store.old }
     ensures saved { store.new.saved ≡ store.old.saved }
 {

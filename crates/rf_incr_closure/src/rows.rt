@@ -3,7 +3,8 @@
 ghost use Rattle.std.specs.Prelude.{◌≡◌, ◌<◌, ◌↔◌, ℕ, IsTrue, OnOk, length};
 ghost use Rattle.rf_finite.specs.Walks.{IsReachable, walk_below};
 ghost use Rattle.rf_incr_closure.specs.Entries.{HasRow, HasRows, LeavesOtherRows, LeavesOtherTags, is_marked};
-ghost use Rattle.rf_incr_closure.specs.Words.{mark_at};
+ghost use Rattle.rf_incr_closure.specs.Words.{AreWritten, AreWrittenRows, IsWrittenRow};
+ghost use Rattle.rf_incr_closure.specs.Writes.{mark_at};
 
 use crate::blocks::{BLOCK_SIZE, block_count, block_value, has_bit, row_key, words_at, write};
 use rf_closure::{Edges, reach};
@@ -12,12 +13,15 @@ use std::alloc::{AllocError, Global};
 
 /// Writes the row of a vertex block by block.
 fn write_row(store: &mut Store, tag: u64, from: u64, marks: &[bool]) -> Result<(), AllocError>
-    ensures row { OnOk result (HasRow store.new.current tag (length marks.now) from (mark_at marks.now)) }
+    ensures words { OnOk result
+        (AreWritten store.new.current tag (length marks.now) from (mark_at marks.now)) }
+    ensures unchanged { AreWritten store.old.current tag (length marks.now) from (mark_at marks.now)
+        → store.new ≡ store.old }
     ensures others { LeavesOtherRows store.old.current store.new.current tag (length marks.now) from }
     ensures saved { store.new.saved ≡ store.old.saved }
 {
     for block in 0..block_count(marks.len() as u64) {
-        let words = block_value(marks, (block * BLOCK_SIZE) as usize);
+        let words = block_value(marks, block);
         write(store, row_key(tag, from, block), words)?;
     }
     Ok(())
@@ -47,6 +51,12 @@ impl Rows {
         ensures walks { OnOk result ((a : ℕ) → a < E.size e.now → (b : ℕ) → b < E.size e.now
             → IsTrue (is_marked store.new.current tag a b)
             ↔ IsReachable (E.edge e.now) (E.through e.now) (E.size e.now) a b) }
+
+        // The rows as they are written. Where they stand so already the store stays as it is.
+        ensures words { OnOk result (AreWrittenRows store.new.current tag (E.size e.now)
+            (walk_below (E.edge e.now) (E.through e.now) (E.size e.now))) }
+        ensures unchanged { AreWrittenRows store.old.current tag (E.size e.now)
+            (walk_below (E.edge e.now) (E.through e.now) (E.size e.now)) → store.new ≡ store.old }
         ensures others { LeavesOtherTags store.old.current store.new.current tag }
         ensures saved { store.new.saved ≡ store.old.saved }
     {
@@ -73,6 +83,10 @@ impl Rows {
         ensures walks { OnOk result ((b : ℕ) → b < E.size e.now
             → IsTrue (is_marked store.new.current tag from b)
             ↔ IsReachable (E.edge e.now) (E.through e.now) (E.size e.now) from b) }
+        ensures words { OnOk result (IsWrittenRow store.new.current tag (E.size e.now) from
+            (walk_below (E.edge e.now) (E.through e.now) (E.size e.now) from)) }
+        ensures unchanged { IsWrittenRow store.old.current tag (E.size e.now) from
+            (walk_below (E.edge e.now) (E.through e.now) (E.size e.now) from) → store.new ≡ store.old }
         ensures others { LeavesOtherRows store.old.current store.new.current tag (E.size e.now) from }
         ensures saved { store.new.saved ≡ store.old.saved }
     {

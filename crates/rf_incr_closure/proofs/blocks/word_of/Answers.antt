@@ -1,5 +1,5 @@
 use Rattle.std.proofs.Common.{◌+◌, ◌-◌, arith}
-use Rattle.rf_incr_closure.specs.Words.{mark_at}
+use Rattle.rf_incr_closure.specs.Writes.{mark_at}
 use Rattle.rf_incr_closure.proofs.Bits.{bit-lt, word_of-small}
 use Rattle.rf_incr_closure.proofs.blocks.word_of.Goals as goal
 

@@ -1,5 +1,6 @@
 use Rattle.std.proofs.Common.{◌≡◌, ◌+◌, ◌-◌}
-use Rattle.rf_incr_closure.specs.Words.{mark_at, word_of}
+use Rattle.rf_incr_closure.specs.Words.{word_of}
+use Rattle.rf_incr_closure.specs.Writes.{mark_at}
 use Rattle.rf_incr_closure.proofs.blocks.word_of.Given as goal
 
 abbrev pub invariant-loop-done : goal.invariant-loop-done
