@@ -12,6 +12,8 @@ mod ranks;
 #[cfg(test)]
 mod reach;
 #[cfg(test)]
+mod rows;
+#[cfg(test)]
 mod store;
 #[cfg(test)]
 mod sums;
